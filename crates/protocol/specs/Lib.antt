@@ -1,0 +1,2 @@
+pub mod Strands
+pub mod Lawful

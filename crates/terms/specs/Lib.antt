@@ -1,0 +1,4 @@
+pub mod Terms
+pub mod Bits
+pub mod Nodes
+pub mod Sets
