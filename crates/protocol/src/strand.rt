@@ -19,8 +19,14 @@ impl Strand {
     pub fn empty() -> Strand
         ensures { λ r. ⌜ take (r .len) (r .steps) ≡ [] ⌝ }
     {
-        let unused = Step::Same { left: NodeNo(0), right: NodeNo(0) };
-        Strand { steps: [unused; 16], len: 0 }
+        let unused = Step::Same {
+            left: NodeNo(0),
+            right: NodeNo(0),
+        };
+        Strand {
+            steps: [unused; 16],
+            len: 0,
+        }
     }
 
     pub fn steps(&self) -> &[Step]
@@ -38,6 +44,9 @@ impl Strand {
         }
         let mut steps = self.steps;
         steps[self.len] = step;
-        Some(Strand { steps, len: self.len + 1 })
+        Some(Strand {
+            steps,
+            len: self.len + 1,
+        })
     }
 }

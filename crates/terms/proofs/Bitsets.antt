@@ -96,18 +96,20 @@ and-none (suc k) a b l h =
     and-step a b ∙ omega (arith, i, m)
 
 pub subset-decided : (a b : ℕ) → a < 2 ^ 64 → Decides (eqb (bitAnd a b) a) ((x : ℕ) → In x a → In x b)
-subset-decided a b l =
-    (λ t x p. let e = eqb-true (bitAnd a b) a t in
-    let f : min ((a / 2 ^ x) % 2) ((b / 2 ^ x) % 2) ≡ (a / 2 ^ x) % 2 = sym (and-at x a b) ∙ ap (λ (n : ℕ). (n / 2 ^ x) % 2) e in
-    omega (arith, digit (b / 2 ^ x)),
-    λ h. eq-eqb _ _ (and-full 64 a b l h))
+subset-decided a b l = (
+  λ t x p. let e = eqb-true (bitAnd a b) a t in
+      let f : min ((a / 2 ^ x) % 2) ((b / 2 ^ x) % 2) ≡ (a / 2 ^ x) % 2 = sym (and-at x a b) ∙ ap (λ (n : ℕ). (n / 2 ^ x) % 2) e in
+      omega (arith, digit (b / 2 ^ x)),
+  λ h. eq-eqb _ _ (and-full 64 a b l h),
+)
 
 pub disjoint-decided : (a b : ℕ) → a < 2 ^ 64 → Decides (eqb (bitAnd a b) 0) ((x : ℕ) → In x a → In x b → ⊥)
-disjoint-decided a b l =
-    (λ t x p q. let e = eqb-true (bitAnd a b) 0 t in
-    let f : min ((a / 2 ^ x) % 2) ((b / 2 ^ x) % 2) ≡ (0 / 2 ^ x) % 2 = sym (and-at x a b) ∙ ap (λ (n : ℕ). (n / 2 ^ x) % 2) e in
-    not-in-zero x (sym f ∙ omega arith),
-    λ h. eq-eqb _ _ (and-none 64 a b l h))
+disjoint-decided a b l = (
+  λ t x p q. let e = eqb-true (bitAnd a b) 0 t in
+      let f : min ((a / 2 ^ x) % 2) ((b / 2 ^ x) % 2) ≡ (0 / 2 ^ x) % 2 = sym (and-at x a b) ∙ ap (λ (n : ℕ). (n / 2 ^ x) % 2) e in
+      not-in-zero x (sym f ∙ omega arith),
+  λ h. eq-eqb _ _ (and-none 64 a b l h),
+)
 
 and-one : (n : ℕ) → bitAnd n 1 ≡ n % 2
 and-one n = and-mask n 1
@@ -121,9 +123,10 @@ wide-decided x n l h =
 
 -- one variable more
 pub with-one : (v n m : ℕ) → v < 64 → m ≡ 2 ^ v → (x : ℕ) → (In x (bitOr n m) → In x n ⊎ ((x ≡ v) × (x < 64))) × (In x n ⊎ ((x ≡ v) × (x < 64)) → In x (bitOr n m))
-with-one v n m l e x =
-    (λ i. ⊎-elim (λ p. inl p) (λ p. let q = in-one x v (rw e at p) in inr (q, omega arith)) (in-or x n m i),
-    λ s. or-in x n m (⊎-elim (λ p. inl p) (λ p. inr (rw e (one-in x v (p .0)))) s))
+with-one v n m l e x = (
+  λ i. ⊎-elim (λ p. inl p) (λ p. let q = in-one x v (rw e at p) in inr (q, omega arith)) (in-or x n m i),
+  λ s. or-in x n m (⊎-elim (λ p. inl p) (λ p. inr (rw e (one-in x v (p .0)))) s),
+)
 
 -- the set of a term's variables has just those
 pub in-varset : (x : ℕ) (t : Term) → In x (varset t) → Occurs x t

@@ -8,7 +8,7 @@ ghost use Rattle.std.specs.Of.Vec.{vec-items, vec-len};
 ghost use lib.Bits.{bitOr};
 ghost use Rattle.std.specs.Orderings.{Decides};
 ghost use Rattle.terms.specs.Bits.{varset};
-ghost use Rattle.terms.specs.Nodes.{node, ordered?, says, term, Below, Narrow, Found, Pushed};
+ghost use Rattle.terms.specs.Nodes.{ordered?, says, term, Below, Narrow, Found, Pushed, Unfolds};
 ghost use Rattle.terms.specs.Sets.{set-of, sets, Gathered};
 use crate::node::Node;
 use crate::node::NodeFault;
@@ -26,6 +26,11 @@ pub struct NodeTable {
     ghost gathered: { vec-items variables ≡ sets (vec-items nodes) },
 }
 
+// The law by which terms are reasoned about: the term of a node is what the node says over the terms of its parts.
+pub fn terms_unfold()
+    ensures { λ _. ⌜ Unfolds ⌝ }
+{}
+
 impl NodeTable {
     pub fn new(heap: Global) -> NodeTable
         ensures { λ r. ⌜ vec-items (r .nodes) ≡ [] ⌝ }
@@ -42,10 +47,8 @@ impl NodeTable {
         self.nodes.len()
     }
 
-    // The nodes. The term of each is what it says over the terms of its parts.
     pub fn as_slice(&self) -> &[Node]
-        ensures value { λ r. ⌜ now r ≡ vec-items (now (self .entry) .nodes) ⌝ }
-        ensures unfolds { λ r. ⌜ ((i : ℕ) → i < length (now r) → term (now r) i ≡ says (term (now r)) (node (now r) i)) ⌝ }
+        ensures { λ r. ⌜ now r ≡ vec-items (now (self .entry) .nodes) ⌝ }
     {
         self.nodes.as_slice()
     }
@@ -54,7 +57,7 @@ impl NodeTable {
         ensures { λ r. ⌜ Found (vec-items (now (self .entry) .nodes)) (n .0) r ⌝ }
     {
         let i = n.0 as usize;
-        if i < self.nodes.len() {
+        if i < self.len() {
             Some(self.nodes[i])
         } else {
             None
@@ -77,7 +80,7 @@ impl NodeTable {
     fn has_parts(&self, node: Node) -> bool
         ensures { λ r. ⌜ Decides r (Below (length (vec-items (now (self .entry) .nodes))) node) ⌝ }
     {
-        let n = self.nodes.len();
+        let n = self.len();
         match node {
             Node::Pair { left, right } => (left.0 as usize) < n && (right.0 as usize) < n,
             Node::Seal { body, key } => (body.0 as usize) < n && (key.0 as usize) < n,
@@ -103,7 +106,8 @@ impl NodeTable {
         requires { ⌜ a .0 < length (vec-items (now self .nodes)) ⌝ ∗ ⌜ b .0 < length (vec-items (now self .nodes)) ⌝ }
         ensures { λ r. ⌜ r .0 ≡ bitOr (varset (term (vec-items (now (self .entry) .nodes)) (a .0))) (varset (term (vec-items (now (self .entry) .nodes)) (b .0))) ⌝ }
     {
-        self.variables[a.0 as usize].union(self.variables[b.0 as usize])
+        self.variables[a.0 as usize]
+            .union(self.variables[b.0 as usize])
     }
 
     // One node more, where its references are to nodes of the table and its variable is below 64.

@@ -1,12 +1,13 @@
-// Sets of variables with numbers below 64, one bit each.
+// Sets of variables with numbers below 64.
 ghost use mathlib.Core.Path.{_≡_};
+ghost use mathlib.Core.Bool.{cond};
 ghost use mathlib.Core.Logic.{_⊎_};
 ghost use Prim.Native.Nat.{ℕ, _^_, _<_};
-ghost use mathlib.Core.Bool.{cond};
-ghost use lib.Dec.{ltb};
 ghost use Rattle.std.specs.Orderings.{Decides};
 ghost use lib.Bits.{bitOr};
+ghost use lib.Dec.{ltb};
 ghost use Rattle.terms.specs.Bits.{In};
+use crate::bits;
 use crate::number::Variable;
 
 #[derive(Clone, Copy, PartialEq, Eq)]
@@ -24,11 +25,7 @@ impl VarSet {
         ensures value { λ r. ⌜ r .0 ≡ cond (ltb (v .0) 64) (bitOr (self .0) (2 ^ (v .0))) (self .0) ⌝ }
         ensures members { λ r. ⌜ ((x : ℕ) → (In x (r .0) → In x (self .0) ⊎ ((x ≡ v .0) × (x < 64))) × (In x (self .0) ⊎ ((x ≡ v .0) × (x < 64)) → In x (r .0))) ⌝ }
     {
-        if v.0 < 64 {
-            VarSet(self.0 | 1u64 << v.0)
-        } else {
-            self
-        }
+        VarSet(bits::add(self.0, v.0))
     }
 
     pub fn union(self, other: VarSet) -> VarSet
@@ -40,18 +37,18 @@ impl VarSet {
     pub fn contains(self, v: Variable) -> bool
         ensures { λ r. ⌜ Decides r (In (v .0) (self .0)) ⌝ }
     {
-        v.0 < 64 && (self.0 >> v.0) & 1 == 1
+        bits::has(self.0, v.0)
     }
 
     pub fn is_subset(self, other: VarSet) -> bool
         ensures { λ r. ⌜ Decides r ((x : ℕ) → In x (self .0) → In x (other .0)) ⌝ }
     {
-        self.0 & other.0 == self.0
+        bits::within(self.0, other.0)
     }
 
     pub fn is_disjoint(self, other: VarSet) -> bool
         ensures { λ r. ⌜ Decides r ((x : ℕ) → In x (self .0) → In x (other .0) → ⊥) ⌝ }
     {
-        self.0 & other.0 == 0
+        bits::apart(self.0, other.0)
     }
 }
