@@ -1,0 +1,11 @@
+pub mod Texts
+pub mod Bodies
+pub mod Coding
+pub mod Grown
+pub mod Prefixes
+pub mod Regrowing
+pub mod OneReply
+pub mod Places
+pub mod Listing
+pub mod Growing
+pub mod First
