@@ -1,0 +1,5 @@
+pub mod View
+pub mod Checking
+pub mod Sheets
+pub mod Drafting
+pub mod Loading
