@@ -1,0 +1,4 @@
+pub mod Pushing
+pub mod Numbering
+pub mod Forming
+pub mod Joining
