@@ -1,5 +1,5 @@
 -- Marks on terms that are sound, hold the listed terms and are shut: what is composed from them is just what is derived.
-use Rattle.std.proofs.Common.{◌≡◌, ℕ, Bool, true, false, cond, ◌&&◌, ◌||◌, ◌⊎◌, List, Decides, sym, refl, ap, ◌∙◌, subst, inl, inr, ⊎_elim}
+use Rattle.std.proofs.Common.{◌≡◌, Bool, true, ◌&&◌, List, Decides, sym, refl, ◌∙◌, ⊎_elim}
 use mathlib.Core.List.{Memᴰ}
 use Rattle.std.proofs.lemmas.Bool.{and_parts, and_from, or_cases, or_left, or_right, cond-true, false≢true}
 use Rattle.terms.specs.Terms.{Term, name, env, var, pair, seal, IsName}

@@ -1,17 +1,17 @@
 -- The marking of the parts decides what is derived from the noted terms.
-use Rattle.std.proofs.Common.{◌≡◌, ℕ, zero, suc, ◌+◌, ◌<◌, ◌≤◌, Bool, true, false, ◌⊎◌, List, [], ◌∷◌, map, length, get_or, sym, refl, ap, ◌∙◌, subst, inl, inr, ⊎_elim, arith}
+use Rattle.std.proofs.Common.{◌≡◌, ℕ, zero, suc, ◌<◌, Bool, true, false, List, [], ◌∷◌, length, get_or, sym, refl, ap, ◌∙◌, subst, ⊎_elim, arith}
 use mathlib.Core.List.Memᴰ
 use mathlib.Core.List.{Memᴰ}
 use Rattle.std.proofs.lemmas.List.{get_or_past}
 use Rattle.std.proofs.lemmas.Bool.{cases_lt, false≢true}
 use Rattle.terms.specs.Terms.{Term}
-use Rattle.terms.specs.Nodes.{term, terms, Ordered}
+use Rattle.terms.specs.Nodes.{term, terms}
 use Rattle.terms.specs.declared.node.Node.{Node}
 use Rattle.terms.proofs.Unfolding.{length_terms}
 use Rattle.derivation.specs.Derive.{Derives, listed}
 use Rattle.derivation.specs.Noted.{noted_terms}
 use Rattle.analysis.specs.Places.{first}
-use Rattle.analysis.specs.Parts.{knows, taken, Parts, Decided}
+use Rattle.analysis.specs.Parts.{knows, taken, Decided}
 use Rattle.analysis.proofs.Finding.{find_hit}
 use Rattle.analysis.proofs.Composing.{composed_decides}
 use Rattle.analysis.proofs.Settling.{sound_marking}

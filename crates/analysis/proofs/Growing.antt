@@ -1,7 +1,7 @@
 -- The parts stay the parts when the table grows by a node.
-use Rattle.std.proofs.Common.{◌≡◌, ℕ, zero, suc, ◌+◌, ◌<◌, ◌≤◌, Bool, true, false, cond, ◌&&◌, ◌⊎◌, List, [], ◌∷◌, ◌++◌, length, get_or, sym, refl, ap, ◌∙◌, subst, inl, inr, ⊎_elim, arith}
-use Rattle.std.proofs.lemmas.List.{length_push, get_or_append_left, get_or_push, get_or_past}
-use Rattle.std.proofs.lemmas.Bool.{cases_lt, cases_eq}
+use Rattle.std.proofs.Common.{◌≡◌, ℕ, zero, suc, ◌<◌, Bool, true, false, List, [], ◌∷◌, ◌++◌, length, get_or, sym, refl, ap, ◌∙◌, ⊎_elim, arith}
+use Rattle.std.proofs.lemmas.List.{length_push}
+use Rattle.std.proofs.lemmas.Bool.{cases_lt}
 use Rattle.terms.specs.Terms.{Term, name, env, var, pair, seal}
 use Rattle.terms.specs.Nodes.{node, says, term, Below, Ordered}
 use Rattle.terms.specs.declared.node.Node.{Node}
@@ -9,8 +9,8 @@ use Rattle.terms.specs.declared.node.Node.TheVariants.{Name, Env, Var, Pair, Sea
 use Rattle.terms.proofs.Unfolding.{unfolds, term_before, term_last}
 use Rattle.derivation.specs.Noted.{Held}
 use Rattle.analysis.specs.Places.{first}
-use Rattle.analysis.specs.Parts.{knows, opens, taken, Shut, Grows, Contains, Parts}
-use Rattle.analysis.proofs.Finding.{first_at, first_push, first_new}
+use Rattle.analysis.specs.Parts.{knows, opens, taken, Shut, Parts}
+use Rattle.analysis.proofs.Finding.{first_push, first_new}
 use Rattle.analysis.proofs.Deciding.{known_at}
 
 -- an unmarked place at the end changes no mark

@@ -1,17 +1,16 @@
 -- The steps of marking, from one mark to all that comes of some.
-use Rattle.std.proofs.Common.{◌≡◌, ℕ, zero, suc, ◌+◌, ◌-◌, ◌<◌, ◌≤◌, Bool, true, false, cond, ◌&&◌, ◌||◌, ◌⊎◌, List, [], ◌∷◌, ◌++◌, length, get_or, take, set, sym, refl, ap, ◌∙◌, subst, inl, inr, ⊎_elim, arith}
+use Rattle.std.proofs.Common.{◌≡◌, ℕ, ◌+◌, ◌-◌, ◌<◌, ◌≤◌, Bool, true, false, ◌||◌, List, [], ◌∷◌, ◌++◌, length, get_or, take, set, sym, refl, ap, ◌∙◌, subst, ⊎_elim, arith}
 use Rattle.std.proofs.lemmas.List.{length-set, length_push, get_or-set_same, get_or-set_other, get_or_append_left, get_or_push, take_more}
 use Rattle.std.proofs.lemmas.Bool.{and_from, and_parts, cases_eq, cases_lt, cond-true, cond-false, false≢true}
 use Rattle.terms.specs.Terms.{Term, name, env, var, pair, seal}
-use Rattle.terms.specs.Nodes.{node, says, term, Below, Ordered}
+use Rattle.terms.specs.Nodes.{node, says, term, Ordered}
 use Rattle.terms.specs.declared.node.Node.{Node}
-use Rattle.terms.specs.declared.node.Node.TheVariants.{Name, Env, Var, Pair, Seal}
+use Rattle.terms.specs.declared.node.Node.TheVariants.{Pair, Seal}
 use Rattle.terms.specs.declared.number.NodeNo.{NodeNo}
 use Rattle.terms.proofs.Unfolding.{unfolds}
 use Rattle.analysis.specs.Places.{first}
 use Rattle.analysis.specs.Parts.{knows, opens, taken, Shut, Grows, Contains, Parts, free}
 use Rattle.analysis.specs.Marks.{Above, Marked, Done, Spread, Passing, Settled, Learned, Noting}
-use Rattle.analysis.proofs.Finding.{first_at}
 use Rattle.analysis.proofs.Settling.{free_set, set_grows}
 
 pub above_same : (ns : List Node) (a b : List Bool) → b ≡ a → Above ns a b

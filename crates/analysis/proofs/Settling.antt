@@ -1,13 +1,13 @@
 -- Over a table in order there is a marking that is shut, holds the noted terms and marks derived terms only.
-use Rattle.std.proofs.Common.{◌≡◌, ℕ, zero, suc, ◌+◌, ◌<◌, ◌≤◌, Bool, true, false, cond, ◌&&◌, ◌⊎◌, List, [], ◌∷◌, ◌++◌, length, get_or, set, replicate, sym, refl, ap, ◌∙◌, subst, inl, inr, ⊎_elim, arith}
-use Rattle.std.proofs.lemmas.List.{length-set, length-replicate, get_or-replicate, get_or-set_same, get_or-set_other, get_or_past}
+use Rattle.std.proofs.Common.{◌≡◌, ℕ, zero, suc, ◌<◌, ◌≤◌, Bool, true, false, ◌⊎◌, List, [], ◌∷◌, length, get_or, set, replicate, sym, refl, ap, ◌∙◌, subst, inl, inr, ⊎_elim, arith}
+use Rattle.std.proofs.lemmas.List.{length-set, length-replicate, get_or-replicate, get_or-set_same, get_or-set_other}
 use Rattle.std.proofs.lemmas.Bool.{and_from, cases_Bool, cases_eq, cases_lt, cond-true, cond-false, both_ways, false≢true}
 use Rattle.terms.specs.Terms.{Term, name, env, var, pair, seal, IsName}
 use Rattle.terms.specs.Nodes.{node, says, term, Below, Ordered}
 use Rattle.terms.specs.declared.node.Node.{Node}
 use Rattle.terms.specs.declared.node.Node.TheVariants.{Name, Env, Var, Pair, Seal}
 use Rattle.terms.proofs.Unfolding.{unfolds}
-use Rattle.derivation.specs.Derive.{Derives, listed, public, left, right, both, open_seal, make_seal}
+use Rattle.derivation.specs.Derive.{Derives, public, left, right, open_seal}
 use Rattle.derivation.specs.Noted.{Held}
 use Rattle.analysis.specs.Places.{first}
 use Rattle.analysis.specs.Parts.{knows, opens, taken, Shut, Grows, Contains, free}

@@ -1,5 +1,5 @@
 -- The parts into which listed terms come apart, as marks on first places, and what can be put together from them.
-use Rattle.std.specs.Prelude.{◌≡◌, ℕ, ◌+◌, ◌<◌, ◌≤◌, Bool, true, false, cond, ◌&&◌, ◌||◌, List, [], ◌∷◌, length, Decides, slice_index, slice_index_or}
+use Rattle.std.specs.Prelude.{◌≡◌, ℕ, ◌+◌, ◌<◌, Bool, true, false, cond, ◌&&◌, ◌||◌, List, [], ◌∷◌, length, Decides, slice_index, slice_index_or}
 use Rattle.terms.specs.Terms.{Term, name, env, var, pair, seal}
 use Rattle.terms.specs.Nodes.{term, Ordered}
 use Rattle.terms.specs.declared.node.Node.{Node}

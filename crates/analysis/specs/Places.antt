@@ -1,5 +1,5 @@
 -- The first place of each term of a table: where two places hold one term, both have one first place.
-use Rattle.std.specs.Prelude.{◌≡◌, ℕ, suc, ◌<◌, ◌≤◌, Bool, true, false, cond, ◌&&◌, List, [], ◌∷◌, map, length, ◌==◌}
+use Rattle.std.specs.Prelude.{◌≡◌, ℕ, suc, ◌<◌, ◌≤◌, Bool, false, cond, ◌&&◌, List, [], ◌∷◌, map, length, ◌==◌}
 use Rattle.terms.specs.Terms.{Term, name, env, var, pair, seal}
 use Rattle.terms.specs.Nodes.{terms, term}
 use Rattle.terms.specs.declared.node.Node.{Node}

@@ -1,4 +1,6 @@
 // Whether a schedule can be broken at its last step is decided over open terms: each theorem is named by the contract of a small function.
+#![tactic(auto)]
+
 ghost use Rattle.deciding.specs.Rules.{Asked, Stays, ForcedSure, ReachedSure, NameFails, PairNeeds, OpenNeeds, MarkedNeeds, ShutBranches, KeyBranches, KeyFails, LookFails, MatchedBox, OtherBox, EarlierFails, MetSettles, SettlesOn, FirstWay};
 ghost use Rattle.deciding.specs.Scan.{PlansGrounded, ScanStarts, ScanPasses};
 ghost use Rattle.deciding.specs.Decide.{Decides, BreakDecided, AnalzTable, BreakingDecided, SomeMatcher, BreakingTold, InstancesEquate, InstancesExtend};

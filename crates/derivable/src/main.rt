@@ -1,5 +1,7 @@
 // Reads nodes and notes from standard input, one to a line, and prints at each `ask` which places are derivable:
 //     name N    env N    pair LEFT RIGHT    seal BODY KEY    note PLACE    ask
+#![tactic(auto)]
+
 use notebook::Notebook;
 use notebooks::KeepingNotebook;
 use std::io;

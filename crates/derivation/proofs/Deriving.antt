@@ -5,7 +5,7 @@ use mathlib.Core.List.Memᴰ
 use mathlib.Core.List.{List, [], ◌∷◌, Memᴰ}
 use Prim.Native.Nat.{ℕ}
 use Rattle.terms.specs.Terms.{Term, name, env, var, pair, seal, Closed, Message, IsName, Atom}
-use Rattle.derivation.specs.Derive.{Derives, listed, public, left, right, both, open_seal, make_seal, Monotone, Cut, StaysClosed, StaysMessage, SealedSecret, ◌⊆◌}
+use Rattle.derivation.specs.Derive.{Derives, listed, public, left, right, both, open_seal, make_seal, Monotone, Cut, StaysClosed, StaysMessage, SealedSecret}
 
 pub cut : (K L : List Term) → ((t : Term) → Memᴰ t L → Derives K t) → {t : Term} → Derives L t → Derives K t
 cut K L h (listed m) = h _ m

@@ -1,7 +1,7 @@
 -- What the environment can put together from a list of closed terms.
 use mathlib.Core.List.{List, [], ◌∷◌, Memᴰ}
 use Rattle.std.specs.Prelude.{ℕ}
-use Rattle.terms.specs.Terms.{Term, name, env, var, pair, seal, IsName, Closed, Message}
+use Rattle.terms.specs.Terms.{Term, name, env, pair, seal, IsName, Closed, Message}
 
 infix 40 ◌⊆◌
 -- the listed terms, every name of the environment, halves and pairs, and what a derived name opens or seals

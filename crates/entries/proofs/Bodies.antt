@@ -1,5 +1,5 @@
 -- Bodies that are three or six numbers, as the records of entries have them.
-use Rattle.std.proofs.Common.{◌≡◌, ℕ, suc, List, [], ◌∷◌, ◌++◌, length, get_or, sym, refl, ap, ◌∙◌, arith}
+use Rattle.std.proofs.Common.{◌≡◌, ℕ, List, [], ◌∷◌, ◌++◌, length, get_or, refl, arith}
 use Rattle.std.specs.List.{flat_map}
 use Rattle.records.specs.Bytes.{Rec, word}
 

@@ -1,17 +1,14 @@
 -- The first sheet is lawful, so its file is refused by no rule.
-use Rattle.std.proofs.Common.{◌≡◌, ℕ, zero, suc, ◌<◌, ◌≤◌, List, [], ◌∷◌, length, get_or, Some, None, sym, refl, ap, ◌∙◌, subst, arith}
-use mathlib.Core.Option.{Option, none, some}
-use Rattle.terms.specs.Nodes.{node, terms, term}
-use Rattle.terms.specs.declared.node.Node.{Node}
+use Rattle.std.proofs.Common.{◌≡◌, ℕ, zero, suc, ◌<◌, ◌≤◌, [], ◌∷◌, length, get_or, Some, None, sym, refl, ◌∙◌, subst, arith}
+use Rattle.terms.specs.Nodes.{node, terms}
 use Rattle.terms.specs.declared.node.Node.TheVariants.{Name}
 use Rattle.protocol.specs.declared.step.Step.{Step}
 use Rattle.protocol.specs.declared.step.Step.TheVariants.{Output}
 use Rattle.protocol.specs.declared.step.Direction.TheVariants as direction
 use Rattle.protocol.specs.declared.step.Property.{Property}
-use Rattle.protocol.specs.Strands.{At, Binds, Uses, BoundBefore, step_of}
+use Rattle.protocol.specs.Strands.{At, Uses, BoundBefore, step_of}
 use Rattle.protocol.specs.Lawful.{Content, NodeLaw, StepLaw, Sound, Lawful}
 use Rattle.entries.specs.declared.fault.Rule.{Rule}
-use Rattle.entries.specs.Format.{file}
 use Rattle.entries.specs.Reading.{taken, refused, Reads, first_file}
 use Rattle.entries.proofs.OneReply.{one_reply}
 

@@ -1,7 +1,7 @@
 -- One entry more: what is sound stays sound, and the entries are one more.
 use Rattle.std.proofs.Common.{◌≡◌, ℕ, ◌<◌, ◌≤◌, ◌⊎◌, List, [], ◌∷◌, ◌++◌, length, get_or, Some, None, Option, sym, refl, ap, ◌∙◌, subst, inl, inr, not-suc-le-zero, arith}
 use native.Mathlib.Decide.{dec_lt}
-use Rattle.std.specs.List.{AllByRecursion as All}
+use Rattle.std.specs.List.{AllByRecursion}
 use Rattle.std.proofs.lemmas.List.{length_push, length-set, get_or_append_left, get_or_push}
 use Rattle.std.proofs.ByRecursion.{All-push}
 use Rattle.terms.specs.Terms.{Term, Vars}
@@ -30,7 +30,7 @@ no_property_in C e = subst (λ (o : Option Property). PropertyIn C o) (sym e) tt
 
 -- content with no strand yet is sound where its texts and nodes are
 module _ (C : Content) (no-strands : C.strands ≡ []) (no_property : C.property ≡ None) where
-  early : length C.labels ≤ 32 → length C.names ≤ 64 → length C.variables ≤ 64 → length C.nodes ≤ 256 → All Text C.labels → All Text C.names → All Text C.variables → ((i : ℕ) → i < length C.nodes → NodeLaw C i (node C.nodes i)) → Sound C
+  early : length C.labels ≤ 32 → length C.names ≤ 64 → length C.variables ≤ 64 → length C.nodes ≤ 256 → AllByRecursion Text C.labels → AllByRecursion Text C.names → AllByRecursion Text C.variables → ((i : ℕ) → i < length C.nodes → NodeLaw C i (node C.nodes i)) → Sound C
   early l n v m tl tn tv stand = record {
     few_labels = l;
     few_names = n;

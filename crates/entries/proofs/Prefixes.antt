@@ -2,7 +2,7 @@
 use Rattle.std.proofs.Common.{◌≡◌, ℕ, zero, suc, ◌-◌, ◌<◌, List, [], ◌∷◌, ◌++◌, length, get_or, set, sym, refl, ap, ◌∙◌, subst, not-suc-le-zero, arith}
 use mathlib.Core.Option.{some}
 use lib.ListN.{get_elem?}
-use Rattle.std.specs.List.{AllByRecursion as All}
+use Rattle.std.specs.List.{AllByRecursion}
 use Rattle.std.proofs.lemmas.List.{append-nil, append_assoc, length-append, length_push, get_or_at, set_at}
 use Rattle.std.proofs.ByRecursion.{All-get_or}
 use Rattle.protocol.specs.Strands.{At}
@@ -19,7 +19,7 @@ front_to_back {X} P xs first more = go [] xs refl first
 pub split_short : {X : Type 0} (xs ys : List X) (x : X) (zs : List X) → xs ≡ ys ++ (x ∷ zs) → length ys < length xs
 split_short xs ys x zs e = omega (arith, ap length e, length-append ys (x ∷ zs))
 
-pub split_all : {X : Type 0} (P : X → Type 0) (xs ys : List X) (x : X) (zs : List X) → xs ≡ ys ++ (x ∷ zs) → All P xs → P x
+pub split_all : {X : Type 0} (P : X → Type 0) (xs ys : List X) (x : X) (zs : List X) → xs ≡ ys ++ (x ∷ zs) → AllByRecursion P xs → P x
 split_all P xs ys x zs e a =
     subst P (ap (λ l. get_or l (length ys) x) e ∙ get_or_at ys x zs x (length ys) refl) (All-get_or P xs (length ys) x (split_short xs ys x zs e) a)
 

@@ -1,5 +1,5 @@
 -- What records, and the numbers in them, are taken for.
-use Rattle.std.specs.Prelude.{◌≡◌, ℕ, List, Some, None, Option}
+use Rattle.std.specs.Prelude.{◌≡◌, ℕ, Some, None, Option}
 use Rattle.records.specs.Bytes.{Rec}
 use Rattle.terms.specs.declared.node.Node.{Node}
 use Rattle.protocol.specs.declared.step.Step.{Step}

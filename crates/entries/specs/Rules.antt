@@ -1,10 +1,10 @@
 -- What an entry of a sheet file has to keep, given the content of the entries before it.
-use Rattle.std.specs.Prelude.{◌≡◌, ℕ, ◌+◌, ◌-◌, ◌<◌, ◌≤◌, List, [], ◌∷◌, ◌++◌, length, Some, None, Option, slice_index_or}
+use Rattle.std.specs.Prelude.{◌≡◌, ℕ, ◌-◌, ◌<◌, ◌≤◌, List, [], length, None, slice_index_or}
 use Rattle.records.specs.Bytes.{Rec}
 use Rattle.terms.specs.declared.node.Node.{Node}
 use Rattle.protocol.specs.declared.step.Step.{Step}
 use Rattle.protocol.specs.declared.step.Property.{Property}
-use Rattle.protocol.specs.Strands.{At, Binds, Uses, BoundBefore, Bound, step_of}
+use Rattle.protocol.specs.Strands.{Binds, Uses, BoundBefore, Bound, step_of}
 use Rattle.protocol.specs.Lawful.{Content, Text, NodeLaw, StepLaw, PropertyLaw}
 use Rattle.entries.specs.declared.fault.Rule.{Rule}
 use Rattle.entries.specs.declared.fault.Rule.TheVariants as r

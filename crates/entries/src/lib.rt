@@ -1,4 +1,6 @@
 // A sheet file as entries: what its records say, the rules they keep, and the refusals.
+#![tactic(auto)]
+
 mod decode;
 mod entry;
 mod fault;

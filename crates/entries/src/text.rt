@@ -1,6 +1,6 @@
 // The text of a label, a name or a variable: 1 to 16 bytes from 33 to 126.
 ghost use Rattle.std.specs.Prelude.{◌≡◌, ℕ, ◌+◌, ◌<◌, ◌≤◌, true, length, take, Decides, MatchOption};
-ghost use Rattle.std.specs.List.{AllByRecursion as All};
+ghost use Rattle.std.specs.List.{AllByRecursion};
 ghost use Rattle.protocol.specs.Lawful.{Text as IsText};
 ghost use Rattle.entries.specs.Printable.{printable?};
 
@@ -29,14 +29,14 @@ impl Text {
 
     pub fn as_bytes(&self) -> &[u8]
         ensures value { result.now ≡ take self.now.len self.now.bytes }
-        ensures printable { All (λ b. (33 ≤ b) × (b ≤ 126)) result.now }
+        ensures printable { AllByRecursion (λ b. (33 ≤ b) × (b ≤ 126)) result.now }
     {
         &self.bytes[0..self.len]
     }
 }
 
 fn printable(bytes: &[u8]) -> bool
-    ensures { Decides result (All (λ b. (33 ≤ b) × (b ≤ 126)) bytes.now) }
+    ensures { Decides result (AllByRecursion (λ b. (33 ≤ b) × (b ≤ 126)) bytes.now) }
 {
     for b in bytes {
         if *b < 33 || *b > 126 {

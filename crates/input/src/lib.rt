@@ -1,4 +1,6 @@
 // Standard input as bytes in a buffer.
+#![tactic(auto)]
+
 ghost use Rattle.std.specs.Prelude.{ℕ, ◌≤◌, length, IfOk};
 
 use std::io;

@@ -1,4 +1,6 @@
 // What is derived under a valuation, seen in the open terms: each theorem is named by the contract of a small function.
+#![tactic(auto)]
+
 ghost use Rattle.lifting.specs.Same.{SameSound, SameComplete};
 ghost use Rattle.lifting.specs.Lift.{Lifting, Lowering, LocalName, ShutSeal};
 ghost use Rattle.lifting.specs.Bind.{WalkKeeps, WalkEnds, LiftingWalked};

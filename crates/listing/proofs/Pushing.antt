@@ -1,6 +1,6 @@
 -- A text that grows piece by piece.
 use Rattle.std.proofs.Common.{◌≡◌, ℕ, ◌+◌, ◌<◌, ◌≤◌, cond, List, [], ◌∷◌, ◌++◌, map, length, get_or, take, is_ok, IfOk, Ok, Err, Result, sym, ap, ◌∙◌, arith}
-use Rattle.std.specs.List.{AllByRecursion as All}
+use Rattle.std.specs.List.{AllByRecursion}
 use Rattle.std.proofs.ByRecursion.{All-get_or}
 use Rattle.std.proofs.lemmas.List.{append-nil, append_assoc, take_more, get_or-map, get_or_past, length-map}
 use Rattle.entries.specs.declared.text.Text.{Text}
@@ -42,7 +42,7 @@ pub whole : {a p b : List ℕ} → a ≡ [] → Adds a p b → b ≡ p
 whole {a} {p} {b} e s = s.bytes ∙ ap (λ (l : List ℕ). l ++ p) e
 
 -- the bytes of a text one by one
-pub byte_more : {a b c : List ℕ} (bs : List ℕ) (i : ℕ) (e : List ℕ) → i < length bs → All (λ x. (33 ≤ x) × (x ≤ 126)) bs → Adds a (take i bs) b → c ≡ b ++ e → (get_or bs i 0 < 128 → e ≡ get_or bs i 0 ∷ []) → Adds a (take (i + 1) bs) c
+pub byte_more : {a b c : List ℕ} (bs : List ℕ) (i : ℕ) (e : List ℕ) → i < length bs → AllByRecursion (λ x. (33 ≤ x) × (x ≤ 126)) bs → Adds a (take i bs) b → c ≡ b ++ e → (get_or bs i 0 < 128 → e ≡ get_or bs i 0 ∷ []) → Adds a (take (i + 1) bs) c
 byte_more {a} {b} {c} bs i e h p s g t =
     let r = All-get_or (λ x. (33 ≤ x) × (x ≤ 126)) bs i 0 h p in
     let u = t (omega arith) in

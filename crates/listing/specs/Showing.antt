@@ -1,7 +1,6 @@
 -- What is shown of a file: the listing of its sheet, or its refusal.
-use Rattle.std.specs.Prelude.{◌≡◌, ℕ, ◌⊎◌, List, ◌++◌, Some, codes, decimal}
+use Rattle.std.specs.Prelude.{◌≡◌, ℕ, List, ◌++◌, Some, codes, decimal}
 use Rattle.protocol.specs.declared.step.Property.{Property}
-use Rattle.protocol.specs.Lawful.{Content}
 use Rattle.entries.specs.Faults.{number}
 use Rattle.entries.specs.Reading.{Reply, taken, refused, Reads}
 use Rattle.listing.specs.Lines.{lines}

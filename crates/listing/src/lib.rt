@@ -1,4 +1,6 @@
 // The listing of a sheet as text.
+#![tactic(auto)]
+
 ghost use Rattle.std.specs.Prelude.{◌≡◌, IfOk, Some, string_bytes};
 ghost use Rattle.protocol.specs.declared.step.Property.{Property};
 ghost use Rattle.sheet.specs.Sheets.{content_of};

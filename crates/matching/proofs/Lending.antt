@@ -1,8 +1,7 @@
 -- The nodes of a table as a slice that is equal to them.
-use Rattle.std.proofs.Common.{◌≡◌, ℕ, ◌<◌, Bool, true, List, length, sym, subst}
-use Rattle.terms.specs.Nodes.{Ordered, ordered?, node}
+use Rattle.std.proofs.Common.{◌≡◌, ℕ, Bool, true, List, sym, subst}
+use Rattle.terms.specs.Nodes.{Ordered, ordered?}
 use Rattle.terms.specs.declared.node.Node.{Node}
-use Rattle.terms.specs.declared.node.Node.TheVariants.{Var}
 use Rattle.terms.proofs.Unfolding.{ordered_true}
 use Rattle.unification.specs.Bindings.{Good}
 use Rattle.unification.specs.Index.{Named}

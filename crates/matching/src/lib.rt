@@ -1,4 +1,6 @@
 // Matching: bindings of variables under which terms are equal, exactly those and no others; and trials of it.
+#![tactic(auto)]
+
 mod bindings;
 mod calls;
 mod classes;

@@ -1,4 +1,6 @@
 // Matches the opens, splits and sames of each strand of the sheet on standard input, and shows what they bind.
+#![tactic(auto)]
+
 use entries::Text;
 use input::read_input;
 use matching::{Binding, Matching, Trial};

@@ -1,11 +1,11 @@
 -- The calls alone say what is answered: one reply to a call, one list of replies to a row.
-use Rattle.std.proofs.Common.{◌≡◌, ℕ, ◌+◌, ◌<◌, ◌≤◌, Bool, List, [], ◌∷◌, ◌++◌, length, take, Some, None, Ok, Err, Option, Result, sym, refl, ap, ◌∙◌, subst, ap₂, arith}
+use Rattle.std.proofs.Common.{◌≡◌, ℕ, List, [], ◌∷◌, ◌++◌, take, Some, None, Ok, Err, Option, Result, sym, refl, ap, ◌∙◌, subst, ap₂, arith}
 use Rattle.std.proofs.lemmas.Bool.Decides.{same_from_decides}
 use Rattle.terms.specs.Nodes.{Found}
 use Rattle.terms.specs.declared.node.Node.{Node}
 use Rattle.terms.specs.declared.number.NodeNo.{NodeNo}
-use Rattle.notebook.specs.Calls.{Put, Noted, Derivable}
-use Rattle.notebook.specs.Replies.{Unchanged, Replies, Plays, OnePlay}
+use Rattle.notebook.specs.Calls.{Put, Noted}
+use Rattle.notebook.specs.Replies.{Replies, Plays, OnePlay}
 use Rattle.notebook.specs.declared.faults.PutFault.{PutFault}
 use Rattle.notebook.specs.declared.faults.PutFault.TheVariants as put
 use Rattle.notebook.specs.declared.faults.NoteFault.{NoteFault}

@@ -1,5 +1,5 @@
 -- What rows of calls answer, and that there is one answer to each.
-use Rattle.std.specs.Prelude.{◌≡◌, ℕ, List, [], ◌∷◌, ◌++◌}
+use Rattle.std.specs.Prelude.{◌≡◌, ℕ, List, [], ◌∷◌}
 use Rattle.terms.specs.Nodes.{Found}
 use Rattle.terms.specs.declared.node.Node.{Node}
 use Rattle.notebook.specs.Calls.{Put, Noted, Derivable}

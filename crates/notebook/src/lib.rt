@@ -1,4 +1,6 @@
 // The notebook: what the environment was given, behind an interface. Whatever uses a notebook relies on this alone.
+#![tactic(auto)]
+
 mod calls;
 mod faults;
 mod interface;

@@ -1,10 +1,9 @@
 -- The lists of a notebook: none, one node more, one note more; and when two nodes say one term.
-use Rattle.std.specs.Prelude.{◌≡◌, ℕ, zero, suc, ◌+◌, ◌<◌, ◌≤◌, Bool, true, false, ◌&&◌, ◌⊎◌, List, [], ◌∷◌, ◌++◌, map, length, get_or, take, replicate, Ok, Err, Decides, ◌≢◌, nat_lt, slice_index, slice_index_or, refl}
-use Rattle.std.proofs.Common.{sym, ap, ap₂, subst, ◌∙◌, inl, inr, ⊎_elim, arith}
+use Rattle.std.specs.Prelude.{◌≡◌, ℕ, zero, suc, ◌<◌, ◌≤◌, Bool, true, false, List, [], ◌∷◌, ◌++◌, length, get_or, take, replicate, Ok, Err, Decides, ◌≢◌, nat_lt, slice_index, slice_index_or, refl}
+use Rattle.std.proofs.Common.{sym, ap, ap₂, subst, ◌∙◌, ⊎_elim, arith}
 use Rattle.std.proofs.lemmas.List.{length_push, length-map, map_push, get_or_append_left, get_or_push, get_or-map, get_or_read, length-take-le, length-replicate}
 use Rattle.std.proofs.lemmas.Bool.{ltb-true, lt-ltb, and_parts, and_from, cases_lt, false≢true}
-use Rattle.terms.specs.Terms.{Term, name, env, var, pair, seal}
-use Rattle.terms.specs.Nodes.{node, no_node, says, term, terms, at, Below, Ordered}
+use Rattle.terms.specs.Nodes.{node, no_node, says, term, terms, Below, Ordered}
 use Rattle.terms.specs.declared.node.Node.{Node}
 use Rattle.terms.specs.declared.node.Node.TheVariants.{Name, Env, Var, Pair, Seal}
 use Rattle.terms.specs.declared.number.NodeNo.{NodeNo}

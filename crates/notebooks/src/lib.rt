@@ -1,4 +1,6 @@
 // Two notebooks: one works derivability out at each question, one keeps the parts of what was noted.
+#![tactic(auto)]
+
 mod asking;
 mod composing;
 mod keeping;

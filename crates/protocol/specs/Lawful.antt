@@ -1,6 +1,6 @@
 -- What a sheet holds, and when that is lawful.
-use Rattle.std.specs.Prelude.{◌≡◌, ℕ, ◌<◌, ◌≤◌, ◌⊎◌, List, [], ◌∷◌, length, Some, None, Option, slice_index_or}
-use Rattle.std.specs.List.{AllByRecursion as All}
+use Rattle.std.specs.Prelude.{◌≡◌, ℕ, ◌<◌, ◌≤◌, List, [], length, Some, None, Option, slice_index_or}
+use Rattle.std.specs.List.{AllByRecursion}
 use Rattle.terms.specs.Terms.{Occurs, Vars}
 use Rattle.terms.specs.Nodes.{node, term}
 use Rattle.terms.specs.declared.node.Node.{Node}
@@ -22,7 +22,7 @@ pub record Content : Type 0 where
 
 -- a text: 1 to 16 bytes, each printable and no space
 abbrev pub Text : List ℕ → Type 0
-Text t = (1 ≤ length t) × (length t ≤ 16) × All (λ b. (33 ≤ b) × (b ≤ 126)) t
+Text t = (1 ≤ length t) × (length t ≤ 16) × AllByRecursion (λ b. (33 ≤ b) × (b ≤ 126)) t
 
 -- a local name or a variable
 abbrev pub IsAtom : Node → Type 0
@@ -110,9 +110,9 @@ pub record Sound (C : Content) : Type 0 where
   pub few_nodes : length C.nodes ≤ 256
   pub few_strands : length C.strands ≤ 8
   pub few_steps : (k : ℕ) → length (slice_index_or C.strands k []) ≤ 16
-  pub label_texts : All Text C.labels
-  pub name_texts : All Text C.names
-  pub variable_texts : All Text C.variables
+  pub label_texts : AllByRecursion Text C.labels
+  pub name_texts : AllByRecursion Text C.names
+  pub variable_texts : AllByRecursion Text C.variables
   pub nodes_stand : (i : ℕ) → i < length C.nodes → NodeLaw C i (node C.nodes i)
   pub steps_stand : (k i : ℕ) (p : Step) → At C.strands k i p → StepLaw C p
   -- at most one step of the sheet binds a given variable

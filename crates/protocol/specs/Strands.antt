@@ -1,6 +1,6 @@
 -- Steps and actions over terms, and what a step binds and uses.
 use Rattle.std.specs.Prelude.{◌≡◌, ℕ, ◌<◌, ◌⊎◌, List, [], slice_index_or}
-use Rattle.std.proofs.Math.Option.{Option, none, some}
+use Rattle.std.proofs.Math.Option.{some}
 use Rattle.std.proofs.Math.ListN.{get_elem?}
 use Rattle.terms.specs.Terms.{Term, name, env, var, pair, seal, Vars}
 use Rattle.terms.specs.Nodes.{term}

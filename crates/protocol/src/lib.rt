@@ -1,4 +1,6 @@
 // A protocol as strands of steps and one property, over the numbers of nodes, labels and variables.
+#![tactic(auto)]
+
 mod step;
 mod strand;
 

@@ -1,7 +1,7 @@
 -- A row of numbers as bytes, one number more at a time.
-use Rattle.std.proofs.Common.{◌≡◌, ℕ, zero, suc, ◌+◌, ◌*◌, ◌/◌, ◌%◌, ◌<◌, ◌≤◌, List, [], ◌∷◌, ◌++◌, length, get_or, take, set, sym, refl, ap, ◌∙◌, ap₂, arith}
+use Rattle.std.proofs.Common.{◌≡◌, ℕ, ◌+◌, ◌*◌, ◌/◌, ◌%◌, ◌<◌, List, [], ◌∷◌, ◌++◌, length, get_or, take, set, sym, refl, ap, ◌∙◌, ap₂, arith}
 use Rattle.std.specs.List.{flat_map}
-use Rattle.std.proofs.lemmas.List.{append_assoc, take_more, take_more_set, flat_map_more, take_all, length-append, length-set}
+use Rattle.std.proofs.lemmas.List.{append_assoc, take_more, take_more_set, flat_map_more, take_all}
 use Rattle.records.specs.Bytes.{word}
 
 -- two bytes more

@@ -1,10 +1,9 @@
 -- Bytes as records: one more, and in one way only.
-use Rattle.std.proofs.Common.{◌≡◌, ℕ, zero, suc, ◌+◌, ◌<◌, ◌≤◌, ◌⊎◌, List, [], ◌∷◌, ◌++◌, length, Ok, Err, Result, sym, refl, ap, ◌∙◌, ap₂, inl, inr, ⊎_elim, arith}
-use Rattle.std.specs.List.{flat_map}
-use Rattle.std.proofs.lemmas.List.{append_assoc, append-nil, flat_map_more, length_push, length-append}
+use Rattle.std.proofs.Common.{◌≡◌, ℕ, ◌+◌, ◌⊎◌, List, [], ◌∷◌, ◌++◌, length, Ok, Err, sym, refl, ap, ◌∙◌, ap₂, inl, inr, ⊎_elim, arith}
+use Rattle.std.proofs.lemmas.List.{append_assoc, append-nil, flat_map_more, length_push}
 use Rattle.records.specs.declared.record.FileFault.{FileFault}
 use Rattle.records.specs.declared.record.FileFault.TheVariants.{Cut}
-use Rattle.records.specs.Bytes.{Rec, encode, encode_all, CutOff}
+use Rattle.records.specs.Bytes.{Rec, encode, encode_all}
 use Rattle.records.specs.Reading.{Begins, Next, Scanned, OneScan}
 use Rattle.records.proofs.Fronts.{one_front}
 

@@ -1,5 +1,5 @@
 -- What the record reader answers.
-use Rattle.std.specs.Prelude.{◌≡◌, ℕ, ◌+◌, List, [], ◌∷◌, ◌++◌, length, drop, Some, None, Ok, Err, Option, Result}
+use Rattle.std.specs.Prelude.{◌≡◌, ℕ, ◌+◌, List, [], ◌++◌, length, drop, Some, None, Ok, Err, Option, Result}
 use Rattle.records.specs.declared.record.Record.{Record}
 use Rattle.records.specs.declared.record.FileFault.{FileFault}
 use Rattle.records.specs.declared.record.FileFault.TheVariants.{Cut}

@@ -5,7 +5,7 @@ use mathlib.Core.Logic.{∥∥₁_elim}
 use mathlib.Core.HLevel.{⊥_prop}
 use native.Mathlib.Decide.{ℕ_discrete, dec_lt, dec_le}
 use lib.ListN.{get_elem?, get_or-eq_default}
-use Rattle.std.specs.List.{AllByRecursion as All}
+use Rattle.std.specs.List.{AllByRecursion}
 use Rattle.terms.specs.Terms.{Occurs}
 use Rattle.terms.specs.Nodes.{node, term}
 use Rattle.terms.specs.declared.node.Node.{Node}
@@ -56,7 +56,7 @@ some_at? (l ∷ ss) P d = one? (λ s. (0, s.0, s.1, s.2, s.3)) (λ r. (suc r.0, 
 abbrev all_at? : {A : Type 0} (ss : List (List A)) (P : ℕ → ℕ → A → Type 0) → ((k i : ℕ) (a : A) → Dec (P k i a)) → Dec ((k i : ℕ) (a : A) → At ss k i a → P k i a)
 all_at? ss P d = by_iff (λ n k i a e. held (d k i a) (λ q. n (k, i, a, e, q))) (λ h s. s.4 (h s.0 s.1 s.2 s.3)) (not? (some_at? ss (λ k i a. ¬ P k i a) (λ k i a. not? (d k i a))))
 
-abbrev all? : {A : Type 0} (P : A → Type 0) → ((a : A) → Dec (P a)) → (l : List A) → Dec (All P l)
+abbrev all? : {A : Type 0} (P : A → Type 0) → ((a : A) → Dec (P a)) → (l : List A) → Dec (AllByRecursion P l)
 all? P d [] = yes tt
 all? P d (x ∷ l) = both? (d x) (all? P d l)
 
@@ -182,7 +182,7 @@ module _ (C : Content) where
   few? = both? (dec_le (length C.labels) 32) (both? (dec_le (length C.names) 64) (both? (dec_le (length C.variables) 64) (both? (dec_le (length C.nodes) 256) (both? (dec_le (length C.strands) 8) few_steps?))))
 
   abbrev Texts : Type 0
-  Texts = All Text C.labels × (All Text C.names × All Text C.variables)
+  Texts = AllByRecursion Text C.labels × (AllByRecursion Text C.names × AllByRecursion Text C.variables)
 
   abbrev texts? : Dec Texts
   texts? = both? (all? Text text? C.labels) (both? (all? Text text? C.names) (all? Text text? C.variables))

@@ -1,5 +1,5 @@
 -- Why a lawful protocol's splits bind two variables: one that binds a variable twice has a run that no valuation solves.
-use Rattle.std.specs.Prelude.{◌≡◌, ℕ, [], ◌∷◌, ◌≢◌}
+use Rattle.std.specs.Prelude.{ℕ, [], ◌∷◌, ◌≢◌}
 use Rattle.std.proofs.Math.Option.{none}
 use Rattle.terms.specs.Terms.{Term, name, var}
 use Rattle.protocol.specs.Strands.{input, splits}

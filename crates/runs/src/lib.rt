@@ -1,4 +1,6 @@
 // Runs of a protocol, its schedules and the replies of a search: each theorem is named by the contract of a small function.
+#![tactic(auto)]
+
 ghost use Rattle.runs.specs.Bridge.{RunSolves, SolutionRuns, BeginningRuns, BeginningFeasible, BreakingFeasible, BreaksLast};
 ghost use Rattle.runs.specs.Apart.{StrandsApart, FeasibleCounts};
 ghost use Rattle.runs.specs.Replies.{OneListing, OneReply, OneWord, SomeReply};

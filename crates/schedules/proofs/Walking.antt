@@ -5,11 +5,11 @@ use mathlib.Core.Option.{Option, none, some}
 use mathlib.Core.List.{List, [], ◌∷◌, ◌++◌, map}
 use Prim.Native.Nat.{ℕ, zero, suc, ◌+◌, ◌-◌, ◌<◌, ◌≤◌}
 use native.Mathlib.Nat.{not-suc-le-zero}
-use native.Mathlib.Decide.{ℕ_discrete, dec_lt}
+use native.Mathlib.Decide.{ℕ_discrete}
 use native.Mathlib.Omega.{arith}
 use lib.Dec.{T, eqb, eqb→eq, eqb_refl}
 use Rattle.runs.specs.Words.{less, if_any, branches, words, total}
-use Rattle.schedules.specs.Walk.{if_left, pick, after, Allowed, under, only, up, longer, next, rest, from, WalkStarts, WalksOn, UpLast}
+use Rattle.schedules.specs.Walk.{if_left, pick, after, under, only, up, longer, next, rest, from, WalkStarts, WalksOn, UpLast}
 
 pub walk_starts : WalkStarts
 walk_starts zero n most = refl

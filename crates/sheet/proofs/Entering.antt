@@ -1,27 +1,20 @@
 -- One entry more in the tables, and the variables that are bound then.
-use Rattle.std.proofs.Common.{◌≡◌, ℕ, ◌+◌, ◌-◌, ◌<◌, ◌≤◌, ◌⊎◌, List, [], ◌∷◌, ◌++◌, map, length, get_or, set, Some, None, Ok, Err, vec_items, Result, sym, refl, ap, ◌∙◌, subst, ap₂, inl, inr, ⊎_elim, arith}
-use lib.Bits.{bit_or}
-use Rattle.std.proofs.lemmas.List.{map_push, length_push, get_or_push, length-map, map-set}
-use Rattle.terms.specs.declared.node.Node.{Node}
+use Rattle.std.proofs.Common.{◌≡◌, ℕ, ◌<◌, ◌≤◌, List, [], ◌∷◌, ◌++◌, map, length, None, sym, ap, ◌∙◌, subst, arith}
+use Rattle.std.proofs.lemmas.List.{map_push, length_push, get_or_push}
 use Rattle.terms.specs.declared.variables.VarSet.{VarSet}
 use Rattle.protocol.specs.declared.step.Step.{Step}
 use Rattle.protocol.specs.declared.strand.Strand.{Strand}
-use Rattle.protocol.specs.Strands.{At, Binds, BoundBefore, Bound, step_of}
-use Rattle.protocol.specs.Lawful.{Content, Text}
+use Rattle.protocol.specs.Strands.{BoundBefore, Bound}
+use Rattle.protocol.specs.Lawful.{Content}
 use Rattle.entries.specs.declared.text.Text as code
-use Rattle.entries.specs.declared.fault.Rule.{Rule}
 use Rattle.entries.specs.declared.fault.Rule.TheVariants as r
-use Rattle.entries.specs.declared.fault.SheetFault.{SheetFault}
-use Rattle.entries.specs.declared.fault.SheetFault.TheVariants.{Refused, NoMemory}
 use Rattle.sheet.specs.View.{bytes_of, steps_of}
-use Rattle.entries.specs.Format.{Entry, label, name, variable, node, strand, step, property}
-use Rattle.entries.specs.Faults.{number}
-use Rattle.entries.specs.Rules.{InOrder, HasRoom, GoodText, GoodNode, GoodStep, GoodVariables, GoodProperty, Keeps, KeepsBelow, latest, latest_steps}
-use Rattle.entries.specs.Growth.{with_label, with_strand, with_step}
-use Rattle.sheet.specs.Checking.{Just}
-use Rattle.sheet.specs.Drafting.{Tracks, Refuses, Entered, TextAdded}
-use Rattle.entries.proofs.Places.{longer, at_keeps, at_more, at_within, empty_more}
-use Rattle.sheet.proofs.Shapes.{just_none, just_union, just_same}
+use Rattle.entries.specs.Format.{Entry, strand}
+use Rattle.entries.specs.Rules.{InOrder, HasRoom, GoodText, GoodNode, GoodStep, GoodVariables, GoodProperty, KeepsBelow, latest, latest_steps}
+use Rattle.entries.specs.Growth.{with_strand}
+use Rattle.sheet.specs.Drafting.{Tracks, Refuses}
+use Rattle.entries.proofs.Places.{empty_more}
+use Rattle.sheet.proofs.Shapes.{just_none, just_same}
 
 -- a text pushed onto its table
 pub text_pushed : (xs ys : List code.Text) (t : code.Text) (bs : List ℕ) → bytes_of t ≡ bs → ys ≡ xs ++ (t ∷ []) → map bytes_of ys ≡ map bytes_of xs ++ (bs ∷ [])

@@ -1,11 +1,11 @@
 -- Reading record by record: one more, and every way to stop.
-use Rattle.std.proofs.Common.{◌≡◌, ℕ, ◌+◌, ◌<◌, ◌≤◌, List, [], ◌∷◌, ◌++◌, map, length, is_some, Some, None, Ok, Err, Option, sym, refl, ap, ◌∙◌, arith}
+use Rattle.std.proofs.Common.{◌≡◌, ℕ, ◌+◌, List, [], ◌∷◌, ◌++◌, map, length, Some, None, Err, Option, sym, refl, ap, ◌∙◌, arith}
 use Rattle.std.proofs.lemmas.List.{append-nil, length_push, map_push}
 use Rattle.records.specs.Bytes.{Rec, encode, encode_all, CutOff}
 use Rattle.records.proofs.Scanning.{encode_push}
 use Rattle.terms.specs.declared.variables.VarSet.{VarSet}
 use Rattle.protocol.specs.declared.step.Property.{Property}
-use Rattle.protocol.specs.Lawful.{Content, Sound, Lawful}
+use Rattle.protocol.specs.Lawful.{Content, Sound}
 use Rattle.entries.specs.declared.fault.Rule.{Rule}
 use Rattle.entries.specs.declared.fault.Rule.TheVariants as r
 use Rattle.entries.specs.Format.{Entry, rec, entries, file}
@@ -14,7 +14,7 @@ use Rattle.entries.specs.Growth.{Adds, nothing}
 use Rattle.entries.specs.declared.fault.SheetFault.{SheetFault}
 use Rattle.entries.specs.declared.fault.SheetFault.TheVariants.{Refused, NoMemory}
 use Rattle.sheet.specs.Drafting.{Tracks, Added}
-use Rattle.entries.specs.Reading.{Stops, NextBreaks, Reply, taken, refused, Reads, OneReply, LawfulExactly}
+use Rattle.entries.specs.Reading.{Stops, taken, refused, Reads, LawfulExactly}
 use Rattle.sheet.specs.Loading.{ReadInto, Drafted}
 use Rattle.entries.proofs.Growing.{sound_nothing, grow_sound, grow_entries}
 use Rattle.entries.proofs.OneReply.{one_reply}

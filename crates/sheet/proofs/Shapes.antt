@@ -2,9 +2,9 @@
 use Rattle.std.proofs.Common.{◌≡◌, ℕ, ◌<◌, ◌≤◌, Bool, true, false, ◌⊎◌, List, length, Some, None, Decides, Option, sym, refl, ap, ◌∙◌, subst, inl, inr, ⊎_elim, arith}
 use lib.Bits.{bit_or}
 use Rattle.std.proofs.lemmas.Bool.{false≢true, both_ways}
-use Rattle.terms.specs.Terms.{Term, name, env, var, pair, seal, Occurs, Vars}
+use Rattle.terms.specs.Terms.{Term, var, pair, seal, Occurs, Vars}
 use Rattle.terms.specs.Bits.{In}
-use Rattle.terms.specs.Nodes.{node, says, term, Below, Ordered, ordered?}
+use Rattle.terms.specs.Nodes.{node, says, term, Below, ordered?}
 use Rattle.terms.specs.Sets.{Gathered}
 use Rattle.terms.specs.declared.number.NodeNo.{NodeNo}
 use Rattle.terms.specs.declared.number.Label.{Label}
@@ -14,14 +14,12 @@ use Rattle.terms.specs.declared.node.Node.TheVariants.{Name, Env, Var, Pair, Sea
 use Rattle.terms.specs.declared.variables.VarSet.{VarSet}
 use Rattle.terms.proofs.Bitsets.{in_or, or_in, not_in_zero, vars_from, vars_at}
 use Rattle.terms.proofs.Unfolding.{unfolds, ordered_true}
-use Rattle.protocol.specs.declared.step.Step.{Step}
 use Rattle.protocol.specs.declared.step.Step.TheVariants as step
 use Rattle.protocol.specs.declared.step.Action.{Action}
 use Rattle.protocol.specs.declared.step.Property.{Property}
-use Rattle.protocol.specs.Strands.{TermStep, input, output, opens, splits, same, first, second, variable, Binds, Uses, Bound, step_of}
-use Rattle.protocol.specs.Lawful.{Content, IsVar, Apart, OpenPattern, SplitPattern, StepLaw, ActionLaw, EarlierLaw, PropertyLaw}
-use Rattle.sheet.specs.declared.tables.Shape.{Shape}
-use Rattle.sheet.specs.Checking.{Mentions, Just, Shaped, Acted}
+use Rattle.protocol.specs.Strands.{first, second, variable, Bound}
+use Rattle.protocol.specs.Lawful.{Content, IsVar, Apart, OpenPattern, SplitPattern, EarlierLaw, PropertyLaw}
+use Rattle.sheet.specs.Checking.{Just, Shaped, Acted}
 
 -- the empty set, and the union of two
 pub just_none : (P : ℕ → Type 0) (s : VarSet) → s.0 ≡ 0 → ((x : ℕ) → ¬ P x) → Just P s

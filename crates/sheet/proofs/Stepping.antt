@@ -1,17 +1,16 @@
 -- One step more: what is looked at before, and which variables are bound after.
-use Rattle.std.proofs.Common.{◌≡◌, ℕ, ◌+◌, ◌-◌, ◌<◌, ◌≤◌, Bool, true, false, ◌⊎◌, List, [], ◌∷◌, ◌++◌, map, length, get_or, set, Some, None, Ok, Err, Decides, Result, sym, refl, ap, ◌∙◌, subst, ap₂, inl, inr, ⊎_elim, arith}
+use Rattle.std.proofs.Common.{◌≡◌, ℕ, ◌+◌, ◌-◌, ◌<◌, ◌≤◌, Bool, false, ◌⊎◌, List, [], ◌∷◌, ◌++◌, map, length, get_or, set, Some, Ok, Err, Decides, Result, sym, ap, ◌∙◌, subst, ap₂, inl, inr, ⊎_elim, arith}
 use lib.Bits.{bit_or}
 use Rattle.std.proofs.lemmas.List.{length_push, length-map, length-set, map-set, get_or-map}
 use Rattle.std.proofs.lemmas.Bool.{both_ways}
-use Rattle.terms.specs.Terms.{Vars, Occurs}
 use Rattle.terms.specs.Bits.{In}
 use Rattle.terms.specs.declared.variables.VarSet.{VarSet}
 use Rattle.terms.proofs.Bitsets.{vars_from, vars_at}
 use Rattle.protocol.specs.declared.step.Step.{Step}
 use Rattle.protocol.specs.declared.step.Property.{Property}
 use Rattle.protocol.specs.declared.strand.Strand.{Strand}
-use Rattle.protocol.specs.Strands.{TermStep, input, output, opens, splits, same, At, Binds, Uses, BoundBefore, Bound, step_of}
-use Rattle.protocol.specs.Lawful.{Content, StepLaw, PropertyLaw}
+use Rattle.protocol.specs.Strands.{TermStep, input, output, opens, splits, same, Binds, Uses, BoundBefore, Bound, step_of}
+use Rattle.protocol.specs.Lawful.{Content, PropertyLaw}
 use Rattle.records.specs.Bytes.{Rec}
 use Rattle.entries.specs.declared.fault.Rule.{Rule}
 use Rattle.entries.specs.declared.fault.Rule.TheVariants as r
@@ -20,7 +19,7 @@ use Rattle.entries.specs.declared.fault.SheetFault.TheVariants.{Refused, NoMemor
 use Rattle.sheet.specs.declared.tables.Shape.{Shape}
 use Rattle.sheet.specs.View.{steps_of}
 use Rattle.entries.specs.Format.{Entry, step, property, rec, step_entry, property_entry}
-use Rattle.entries.specs.Rules.{InOrder, HasRoom, GoodStep, GoodVariables, KeepsBelow, Breaks, latest, latest_steps}
+use Rattle.entries.specs.Rules.{InOrder, HasRoom, GoodStep, KeepsBelow, Breaks, latest, latest_steps}
 use Rattle.entries.specs.Growth.{with_step}
 use Rattle.sheet.specs.Checking.{Mentions, Just, Shaped}
 use Rattle.sheet.specs.Drafting.{Tracks, Refuses, Entered, Added}

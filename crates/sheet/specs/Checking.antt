@@ -1,6 +1,6 @@
 -- What the checks of a node, a step and a property answer.
-use Rattle.std.specs.Prelude.{◌≡◌, ℕ, ◌<◌, ◌⊎◌, List, [], length, Some, None, Option}
-use Rattle.terms.specs.Terms.{Term, Occurs}
+use Rattle.std.specs.Prelude.{◌≡◌, ℕ, ◌<◌, ◌⊎◌, List, length, Some, None, Option}
+use Rattle.terms.specs.Terms.{Occurs}
 use Rattle.terms.specs.Bits.{In}
 use Rattle.terms.specs.Nodes.{node, term}
 use Rattle.terms.specs.declared.node.Node.{Node}

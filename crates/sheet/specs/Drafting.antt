@@ -1,10 +1,9 @@
 -- What adding an entry to the tables of a sheet answers.
-use Rattle.std.specs.Prelude.{◌≡◌, ℕ, ◌+◌, ◌<◌, ◌≤◌, List, [], ◌∷◌, ◌++◌, length, Ok, Err, Result}
+use Rattle.std.specs.Prelude.{◌≡◌, ℕ, ◌<◌, ◌≤◌, List, [], ◌∷◌, ◌++◌, length, Ok, Err, Result}
 use Rattle.records.specs.Bytes.{Rec}
 use Rattle.terms.specs.declared.variables.VarSet.{VarSet}
-use Rattle.protocol.specs.declared.step.Step.{Step}
 use Rattle.protocol.specs.Strands.{Binds, BoundBefore, Bound, step_of}
-use Rattle.protocol.specs.Lawful.{Content, Text, Sound}
+use Rattle.protocol.specs.Lawful.{Content, Text}
 use Rattle.entries.specs.declared.fault.Rule.{Rule}
 use Rattle.entries.specs.declared.fault.Rule.TheVariants as r
 use Rattle.entries.specs.declared.fault.SheetFault.{SheetFault}

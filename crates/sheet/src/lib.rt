@@ -1,4 +1,6 @@
 // A sheet: the strands of one exchange and one property, read from a file and lawful by its type.
+#![tactic(auto)]
+
 mod add;
 mod check;
 mod draft;

@@ -1,4 +1,6 @@
 // Sheet files made entry by entry, lawful or not, and what a reader of them answers.
+#![tactic(auto)]
+
 mod entry;
 mod file;
 pub mod kind;

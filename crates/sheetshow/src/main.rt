@@ -1,4 +1,6 @@
 // Shows the sheet file on standard input: a listing to check it by, or why it is refused.
+#![tactic(auto)]
+
 ghost use Rattle.std.specs.Prelude.{ℕ, ◌≤◌, length, IfOk};
 
 use listing::show;

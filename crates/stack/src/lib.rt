@@ -1,4 +1,6 @@
 // Waiting items over lent memory, for every kind of record: the latest comes first.
+#![tactic(auto)]
+
 ghost use Rattle.std.specs.Prelude.{◌≡◌, [], length};
 ghost use Rattle.stack.specs.Waiting.{waiting, room, Pushed, Popped, fault_number};
 

@@ -1,9 +1,9 @@
 -- Sets of variables as bits: what union, intersection and one bit more hold.
-use Rattle.std.proofs.Common.{◌≡◌, ℕ, zero, suc, ◌+◌, ◌-◌, ◌*◌, ◌/◌, ◌%◌, ◌^◌, ◌<◌, ◌≤◌, min, max, eqb, ltb, ◌⊎◌, Decides, sym, refl, ap, ◌∙◌, inl, inr, ⊎_elim, mod-lt, mul_comm, add-mul, zero-add, div-one, arith, pow_pos, pow_mono, pow-add, shr-shr}
-use native.Mathlib.Nat.{div-eq_of_lt, div_self, pow-zero, pow-succ'}
+use Rattle.std.proofs.Common.{◌≡◌, ℕ, zero, suc, ◌+◌, ◌-◌, ◌/◌, ◌%◌, ◌^◌, ◌<◌, ◌≤◌, min, max, eqb, ltb, ◌⊎◌, Decides, sym, refl, ap, ◌∙◌, inl, inr, ⊎_elim, mod-lt, div-one, arith, pow_pos, pow_mono, pow-add, shr-shr}
+use native.Mathlib.Nat.{div-eq_of_lt, div_self, pow-succ'}
 use lib.Pow.{shl-shr, pow-lt}
-use lib.Bits.{bit_and, bit_or, and_step, or_step, and_shr, or_shr, and_zero_l, and_mask, shifted_half, shifted_even}
-use Rattle.std.proofs.lemmas.Bool.{cases_lt, cases_eq, cases_order, eqb-true, eq-eqb, ltb-true, lt-ltb}
+use lib.Bits.{bit_and, bit_or, and_step, or_step, and_shr, or_shr, and_zero_l, and_mask}
+use Rattle.std.proofs.lemmas.Bool.{cases_lt, cases_order, eqb-true, eq-eqb, ltb-true}
 use Rattle.terms.specs.Terms.{Term, name, env, var, pair, seal, Occurs, Vars}
 use Rattle.terms.specs.Bits.{In, varset}
 

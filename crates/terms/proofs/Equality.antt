@@ -1,5 +1,5 @@
 -- Whether two terms are the same can be decided, so an equation between terms has one proof at most.
-use Rattle.std.proofs.Common.{◌≡◌, ℕ, refl, ap, ap₂, arith}
+use Rattle.std.proofs.Common.{◌≡◌, ℕ, ap, ap₂, arith}
 use mathlib.Core.HLevel.{Discrete, hedberg}
 use native.Mathlib.Decide.{ℕ_discrete}
 use Rattle.terms.specs.Terms.{Term, name, env, var, pair, seal}

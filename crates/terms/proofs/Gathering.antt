@@ -1,5 +1,5 @@
 -- The sets of variables of a table's terms: one at a place, and one more.
-use Rattle.std.proofs.Common.{◌≡◌, ℕ, ◌+◌, ◌<◌, ◌≤◌, true, List, [], ◌∷◌, ◌++◌, map, length, get_or, sym, refl, ap, ◌∙◌, ap₂, ⊎_elim, arith}
+use Rattle.std.proofs.Common.{◌≡◌, ℕ, ◌+◌, ◌<◌, true, List, [], ◌∷◌, ◌++◌, map, length, get_or, sym, refl, ap, ◌∙◌, ap₂, ⊎_elim, arith}
 use Rattle.std.proofs.lemmas.List.{length-map, get_or-map, map_push, length_push, get_or_push, get_or_append_left}
 use Rattle.std.proofs.lemmas.Bool.{cases_lt}
 use Rattle.terms.specs.declared.node.Node.{Node}
@@ -48,5 +48,5 @@ pushed_narrow ns ns' n all h e i x l q =
     (cases_lt i (length ns))
 
 -- a table with the same lists
-pub same_table : (ns ms : List Node) (vs us : List VarSet) → ordered? 0 ns ≡ true → vs ≡ sets ns → ((i x : ℕ) → i < length ns → node ns i ≡ Var (record { 0 = x }) → x < 64) → ms ≡ ns → us ≡ vs → (ordered? 0 ms ≡ true) × ((us ≡ sets ms) × (((i x : ℕ) → i < length ms → node ms i ≡ Var (record { 0 = x }) → x < 64) × Unit {0}))
-same_table ns ms vs us o g n p q = (rw p o, (q ∙ g ∙ sym (ap sets p), (λ i x h e. n i x (rw p at h) (ap (λ (l : List Node). node l i) (sym p) ∙ e), tt)))
+pub same_table : (ns ms : List Node) (vs us : List VarSet) → ordered? 0 ns ≡ true → vs ≡ sets ns → ((i x : ℕ) → i < length ns → node ns i ≡ Var (record { 0 = x }) → x < 64) → ms ≡ ns → us ≡ vs → (ordered? 0 ms ≡ true) × (us ≡ sets ms) × ((i x : ℕ) → i < length ms → node ms i ≡ Var (record { 0 = x }) → x < 64)
+same_table ns ms vs us o g n p q = (rw p o, q ∙ g ∙ sym (ap sets p), λ i x h e. n i x (rw p at h) (ap (λ (l : List Node). node l i) (sym p) ∙ e))

@@ -1,11 +1,11 @@
 -- The terms of a table: one node more, and what a node says of the terms before it.
-use Rattle.std.proofs.Common.{◌≡◌, ℕ, zero, suc, ◌+◌, ◌<◌, ◌≤◌, Bool, true, false, ◌&&◌, ltb, List, [], ◌∷◌, ◌++◌, length, get_or, sym, refl, ap, ◌∙◌, ap₂, not-suc-le-zero, arith, length-append}
-use Rattle.std.proofs.lemmas.List.{get_or_append_left, get_or_push, length_push}
+use Rattle.std.proofs.Common.{◌≡◌, ℕ, zero, suc, ◌+◌, ◌<◌, true, ltb, List, [], ◌∷◌, ◌++◌, length, sym, refl, ap, ◌∙◌, ap₂, not-suc-le-zero, arith, length-append}
+use Rattle.std.proofs.lemmas.List.{get_or_append_left, get_or_push}
 use Rattle.std.proofs.lemmas.Bool.{ltb-true, lt-ltb, and_parts, and_from}
 use Rattle.terms.specs.Terms.{Term, name, pair, seal}
 use Rattle.terms.specs.declared.node.Node.{Node}
 use Rattle.terms.specs.declared.node.Node.TheVariants.{Name, Env, Var, Pair, Seal}
-use Rattle.terms.specs.Nodes.{no_node, node, says, at, build, terms, term, Below, Ordered, below?, ordered?, Unfolds, Grows}
+use Rattle.terms.specs.Nodes.{node, says, at, build, terms, term, Below, Ordered, below?, ordered?, Unfolds, Grows}
 
 -- the last node is made last
 build_push : (ts : List Term) (ns : List Node) (n : Node) → build ts (ns ++ (n ∷ [])) ≡ build ts ns ++ (says (at (build ts ns)) n ∷ [])

@@ -1,5 +1,5 @@
 -- Sets of variables as the bits of a number.
-use Rattle.std.specs.Prelude.{◌≡◌, ℕ, ◌/◌, ◌%◌, ◌^◌, ◌<◌, ◌⊎◌, bit_or}
+use Rattle.std.specs.Prelude.{◌≡◌, ℕ, ◌/◌, ◌%◌, ◌^◌, bit_or}
 use Rattle.terms.specs.Terms.{Term, name, env, var, pair, seal}
 
 -- the number's binary digit of weight 2 ^ x is 1: x is in the set

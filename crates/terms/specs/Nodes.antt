@@ -1,7 +1,6 @@
 -- A table of nodes, and the terms that it holds.
-use Rattle.std.specs.Prelude.{◌≡◌, ℕ, suc, ◌<◌, ◌≤◌, Bool, true, false, ◌&&◌, List, [], ◌∷◌, ◌++◌, length, Some, None, Ok, Err, Option, Result, nat_lt, slice_index_or}
+use Rattle.std.specs.Prelude.{◌≡◌, ℕ, suc, ◌<◌, ◌≤◌, Bool, true, ◌&&◌, List, [], ◌∷◌, ◌++◌, length, Some, None, Ok, Err, Option, Result, nat_lt, slice_index_or}
 use Rattle.terms.specs.Terms.{Term, name, env, var, pair, seal}
-use Rattle.terms.specs.declared.number.LocalName.{LocalName}
 use Rattle.terms.specs.declared.node.NodeFault.{NodeFault}
 use Rattle.terms.specs.declared.node.NodeFault.TheVariants.{Reference, Variable, NoMemory}
 use Rattle.terms.specs.declared.node.Node.{Node}

@@ -38,7 +38,7 @@ impl NodeTable {
     pub fn copy(&self, heap: Global) -> Result<NodeTable, AllocError>
         ensures { IfOk result (λ t. t.nodes.items ≡ self.now.nodes.items) }
     {
-        let nodes = Vec::from_slice(heap, self.nodes.as_slice())?;
+        let nodes = Vec::from_slice(heap, self.as_slice())?;
         let variables = Vec::from_slice(heap, self.variables.as_slice())?;
         Ok(NodeTable { nodes, variables })
     }

@@ -1,5 +1,5 @@
 -- Room that is reserved suffices: there are no more bindings than variables, and no more links than nodes.
-use mathlib.Core.Path.{◌≡◌, refl, sym, ap, ◌∙◌, subst}
+use mathlib.Core.Path.{◌≡◌, sym, ap, ◌∙◌, subst}
 use mathlib.Core.List.{List, [], ◌∷◌, ◌++◌}
 use mathlib.Core.Bool.{Bool, true, false}
 use Prim.Native.Nat.{ℕ, zero, suc, ◌+◌, ◌-◌, ◌<◌, ◌≤◌}
@@ -10,7 +10,7 @@ use borrow.Author.Tests.{eq-eqb, ne_eqb}
 use lib.Dec.{eqb}
 use lib.ListN.{length, get_or, set, length-set, length-append}
 use Rattle.terms.specs.declared.number.NodeNo.{NodeNo}
-use Rattle.unification.specs.Bindings.{variable_at, Unbound}
+use Rattle.unification.specs.Bindings.{Unbound}
 use Rattle.unification.specs.Index.{Indexed, zeros, Counted}
 use Rattle.unification.specs.Classes.{up}
 use Rattle.unification.specs.Steps.{bit, heads}

@@ -13,7 +13,7 @@ use Rattle.terms.specs.Terms.{Term, name, env, var, pair, seal, inst, Vars}
 use Rattle.terms.specs.Nodes.{term}
 use Rattle.terms.specs.declared.node.Node.{Node}
 use Rattle.terms.proofs.Equality.{term_set}
-use Rattle.unification.specs.Bindings.{no_binding, variable_at, node_at, val, Instance, Unbound, Once, Falls, Good, Extension, Only, Extends, ExactlyOne, FreeValues, NeverInside}
+use Rattle.unification.specs.Bindings.{no_binding, variable_at, node_at, val, Instance, Unbound, Once, Falls, Good, Extension, Only, Extends, ExactlyOne, NeverInside}
 use Rattle.unification.specs.declared.binding.Binding.{Binding}
 use Rattle.unification.proofs.Variables.{vars_map, inst_cong}
 use Rattle.unification.proofs.Deciding.{Place, bound?}

@@ -3,10 +3,10 @@ use mathlib.Core.HLevel.{Π_prop, ⊥_prop}
 use mathlib.Core.Logic.{∥∥₁_elim, ∥∥₁_map}
 use mathlib.Core.Path.{◌≡◌, sym, ◌∙◌, ap, subst}
 use mathlib.Core.List.{List, []}
-use Prim.Native.Nat.{ℕ, ◌<◌, ◌≤◌}
+use Prim.Native.Nat.{ℕ, ◌<◌}
 use native.Mathlib.Bridge.{le_prop}
 use native.Mathlib.Omega.{arith}
-use lib.ListN.{length, get_or, take, length-take}
+use lib.ListN.{take, length-take}
 use lib.Seq.{get_or-take}
 use Rattle.terms.specs.Terms.{Vars}
 use Rattle.terms.specs.Nodes.{term, node}

@@ -1,14 +1,14 @@
 -- A set of variables widened through the bindings, and what its end says of the variable looked for.
 use mathlib.Core.Path.{◌≡◌, refl, sym, ap, ◌∙◌, subst}
-use mathlib.Core.Bool.{Bool, true, false}
-use mathlib.Core.Logic.{◌⊎◌, inl, inr, ⊎_elim}
-use mathlib.Core.List.{List, [], ◌∷◌, ◌++◌}
-use Prim.Native.Nat.{ℕ, zero, suc, ◌+◌, ◌<◌, ◌≤◌}
+use mathlib.Core.Bool.{Bool}
+use mathlib.Core.Logic.{inl, inr, ⊎_elim}
+use mathlib.Core.List.{List}
+use Prim.Native.Nat.{ℕ, ◌+◌, ◌<◌, ◌≤◌}
 use native.Mathlib.Decide.{dec_lt}
 use native.Mathlib.Omega.{arith}
-use lib.Bits.{bit_or, bit_and, or_add_and, and_le_r}
+use lib.Bits.{bit_or, or_add_and, and_le_r}
 use lib.Dec.{T, ltb, eqb, eqb_refl, eqb→eq, ltb→lt, lt→ltb}
-use lib.ListN.{length, get_or, take}
+use lib.ListN.{length}
 use Rattle.terms.specs.Terms.{Term, name, env, var, pair, seal, inst, Occurs}
 use Rattle.terms.specs.Bits.{In}
 use Rattle.terms.specs.Nodes.{term, node, says, Ordered}
@@ -17,8 +17,8 @@ use Rattle.terms.specs.declared.node.Node.TheVariants.{Name, Env, Var, Pair, Sea
 use Rattle.terms.proofs.Bitsets.{in_or, or_in}
 use Rattle.terms.proofs.Unfolding.{unfolds}
 use Rattle.unification.specs.Sizes.{size}
-use Rattle.unification.specs.Bindings.{variable_at, node_at, val, Instance, Unbound}
-use Rattle.unification.specs.Reaching.{Leads, Passes, Widened, Apart, Start, Inside, Answered}
+use Rattle.unification.specs.Bindings.{variable_at, node_at, val, Instance}
+use Rattle.unification.specs.Reaching.{Passes, Widened, Apart, Start, Inside}
 use Rattle.unification.specs.declared.binding.Binding.{Binding}
 
 -- the first k bindings were looked through: s has become s'

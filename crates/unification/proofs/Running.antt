@@ -1,17 +1,17 @@
 -- The loop of a match.
-use mathlib.Core.Path.{◌≡◌, refl, sym, ap, ◌∙◌, subst}
+use mathlib.Core.Path.{◌≡◌, sym, ap, ◌∙◌, subst}
 use mathlib.Core.Bool.{Bool, true, false}
 use mathlib.Core.List.{List, [], ◌∷◌, ◌++◌}
-use Prim.Native.Nat.{ℕ, ◌+◌, ◌*◌, ◌<◌, ◌≤◌}
+use Prim.Native.Nat.{ℕ, ◌<◌}
 use native.Mathlib.Omega.{arith}
 use lib.Dec.{T}
-use lib.ListN.{length, take, length-append}
+use lib.ListN.{length, length-append}
 use lib.Seq.{take-length}
 use Rattle.terms.specs.declared.number.NodeNo.{NodeNo}
 use Rattle.terms.specs.declared.node.Node.{Node}
 use Rattle.unification.specs.Bindings.{Good}
 use Rattle.unification.specs.Classes.{Own, Move, Never}
-use Rattle.unification.specs.Steps.{Room, heads, effort, Stepped, Running, Matched}
+use Rattle.unification.specs.Steps.{Room, effort, Stepped, Running, Matched}
 use Rattle.unification.specs.declared.binding.Binding.{Binding}
 use Rattle.unification.specs.declared.ask.Ask.{Ask}
 use Rattle.unification.proofs.Moves.{ask, move_refl, move_trans, solved, unsolvable, each_last, each_front}

@@ -3,10 +3,9 @@ use mathlib.Core.Path.{◌≡◌, refl, sym, ap, ◌∙◌, subst}
 use mathlib.Core.Bool.{Bool, true, false}
 use mathlib.Core.Logic.{◌⊎◌, inl, inr, ∥∥₁_map}
 use mathlib.Core.List.{List, [], ◌∷◌, ◌++◌}
-use Prim.Native.Nat.{ℕ, zero, suc, ◌+◌, ◌*◌, ◌<◌, ◌≤◌}
+use Prim.Native.Nat.{ℕ, suc, ◌<◌, ◌≤◌}
 use native.Mathlib.Decide.{ℕ_discrete}
 use native.Mathlib.Omega.{arith}
-use lib.Dec.{T}
 use lib.ListN.{length, set, take, length-set, length-append}
 use lib.Seq.{take-append-le}
 use Rattle.terms.specs.Terms.{Term, pair, seal}
@@ -16,11 +15,11 @@ use Rattle.terms.specs.declared.number.Variable.{Variable}
 use Rattle.terms.specs.declared.node.Node.{Node}
 use Rattle.terms.specs.declared.node.Node.TheVariants.{Var, Pair, Seal}
 use Rattle.unification.specs.Sizes.{size}
-use Rattle.unification.specs.Bindings.{val, reads, Instance, Unbound, Good, Walked}
+use Rattle.unification.specs.Bindings.{val, Instance, Unbound, Good, Walked}
 use Rattle.unification.specs.Reaching.{Apart, Start, Inside}
 use Rattle.unification.specs.Asking.{Tells}
-use Rattle.unification.specs.Classes.{up, Lower, Near, Each, Across, Linked, Alike, Equal, Move, Never, Known, United}
-use Rattle.unification.specs.Steps.{with_binding, Assigned, Room, heads, effort, Stepped}
+use Rattle.unification.specs.Classes.{up, Lower, Near, Across, Alike, Equal, Move, Known, United}
+use Rattle.unification.specs.Steps.{with_binding, Assigned, Stepped}
 use Rattle.unification.specs.declared.binding.Binding.{Binding}
 use Rattle.unification.specs.declared.ask.Ask.{Ask}
 use Rattle.unification.specs.declared.ask.Compared.TheVariants.{Same, Clash, Left, Right, Parts}

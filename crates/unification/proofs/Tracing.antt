@@ -1,16 +1,14 @@
 -- The list of linked nodes, through one link more and one less.
-use mathlib.Core.Path.{◌≡◌, refl, sym, ap, ◌∙◌, subst}
+use mathlib.Core.Path.{◌≡◌, sym, ap, ◌∙◌, subst}
 use mathlib.Core.List.{List, [], ◌∷◌, ◌++◌}
-use Prim.Native.Nat.{ℕ, ◌+◌, ◌<◌, ◌≤◌}
+use Prim.Native.Nat.{ℕ, ◌<◌}
 use native.Mathlib.Decide.{ℕ_discrete, dec_lt}
 use native.Mathlib.Omega.{arith}
 use lib.ListN.{length, set, length-set, length-append, get_or-append}
 use lib.Seq.{get_or-append_seam}
 use Rattle.terms.specs.declared.number.NodeNo.{NodeNo}
-use Rattle.unification.specs.Classes.{up, Own, Lower, Absent, Traced}
-use Rattle.unification.specs.Steps.{heads}
+use Rattle.unification.specs.Classes.{up, Own, Lower, Traced}
 use Rattle.unification.proofs.Moves.{up_same, up_other}
-use Rattle.unification.proofs.Counting.{heads_reset}
 
 up_old : (L : List NodeNo) (n : NodeNo) (k : ℕ) → k < length L → up (L ++ (n ∷ [])) k ≡ up L k
 up_old L n k h = ap (λ (p : NodeNo). p.0) (get_or-append L (n ∷ []) (record { 0 = 0 }) k h)

@@ -5,7 +5,6 @@ use Rattle.terms.specs.declared.number.NodeNo.{NodeNo}
 use Rattle.terms.specs.declared.node.Node.{Node}
 use Rattle.terms.specs.declared.node.Node.TheVariants.{Var, Pair, Seal}
 use Rattle.unification.specs.Bindings.{reads}
-use Rattle.unification.specs.declared.ask.Ask.{Ask}
 use Rattle.unification.specs.declared.ask.Compared.{Compared}
 use Rattle.unification.specs.declared.ask.Compared.TheVariants.{Same, Clash, Left, Right, Parts}
 

@@ -1,5 +1,6 @@
 // Shared nodes: terms with more leaves than can be counted are matched at once.
 use crate::tests::support::*;
+use std::test::Fail;
 use terms::{NodeNo, NodeTable};
 
 #[test]

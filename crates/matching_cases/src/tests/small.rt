@@ -2,6 +2,7 @@
 use crate::tests::support::*;
 use matching::{MatchFault, Matching};
 use sheet::Sheet;
+use std::test::Fail;
 use terms::{EnvName, Node, NodeNo};
 
 #[test]

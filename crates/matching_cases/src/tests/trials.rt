@@ -1,6 +1,7 @@
 // Trials: what they bind is undone, whichever way they end.
 use crate::tests::support::*;
 use matching::{Matching, Trial, all_match, already_equal};
+use std::test::Fail;
 use terms::NodeNo;
 use unification::Ask;
 

@@ -2,6 +2,7 @@
 use crate::tests::script::Shape::*;
 use crate::tests::script::Step::*;
 use crate::tests::script::*;
+use std::test::Fail;
 
 // names d and k, then {d}k and the pair of it with itself
 const D: u16 = 0;

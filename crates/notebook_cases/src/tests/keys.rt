@@ -2,6 +2,7 @@
 use crate::tests::script::Shape::*;
 use crate::tests::script::Step::*;
 use crate::tests::script::*;
+use std::test::Fail;
 
 // names a, j, k; then {a}j and {j}k, so that k opens j and j opens a
 const A: u16 = 0;

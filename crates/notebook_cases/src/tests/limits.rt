@@ -5,6 +5,7 @@ use crate::tests::script::*;
 use notebook::Notebook;
 use notebooks::{AskingNotebook, KeepingNotebook};
 use std::process::Abort;
+use std::test::Fail;
 
 #[test]
 fn lawful_nodes_at_the_edge(rt: HostRuntime) -> Result<(), Fail> {

@@ -2,6 +2,7 @@
 use crate::tests::script::Shape::*;
 use crate::tests::script::Step::*;
 use crate::tests::script::*;
+use std::test::Fail;
 
 #[test]
 fn what_is_put_is_read(rt: HostRuntime) -> Result<(), Fail> {

@@ -95,7 +95,7 @@ pub(crate) fn follow<N: Notebook>(
     steps: &[Step],
 ) -> Result<(), Fail> {
     for (i, step) in steps.iter().enumerate() {
-        assert!(rt; holds(book, *step), "{}", i);
+        assert!(rt; holds(book, *step), "step {i}");
     }
     Ok(())
 }
@@ -103,7 +103,7 @@ pub(crate) fn follow<N: Notebook>(
 // Follows a script on a new notebook of each kind.
 pub(crate) fn on_each(rt: &impl Abort, heap: Global, steps: &[Step]) -> Result<(), Fail> {
     let mut asking = AskingNotebook::new(heap)?;
-    follow(rt, &mut asking, steps).note("asking")?;
+    follow(rt, &mut asking, steps)?;
     let mut keeping = KeepingNotebook::new(heap)?;
-    follow(rt, &mut keeping, steps).note("keeping")
+    follow(rt, &mut keeping, steps)
 }

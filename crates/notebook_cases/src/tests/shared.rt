@@ -5,6 +5,7 @@ use crate::tests::script::*;
 use notebook::Notebook;
 use notebooks::{AskingNotebook, KeepingNotebook};
 use std::process::Abort;
+use std::test::Fail;
 
 #[test]
 fn one_term_at_two_places(rt: HostRuntime) -> Result<(), Fail> {

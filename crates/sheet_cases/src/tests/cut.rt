@@ -6,6 +6,7 @@ use crate::reply::{Reply, reply_to};
 use crate::tests::base::Place;
 use crate::tests::first::FIRST;
 use crate::tests::support::*;
+use std::test::Fail;
 
 const CUT: [Entry<'static>; 16] = [
     // fewer bytes than a length and a kind take

@@ -7,6 +7,7 @@ use crate::tests::support::*;
 use protocol::{Action, Direction, Property, Step, Strand};
 use sheet::{Sheet, Text};
 use std::process::Abort;
+use std::test::Fail;
 use terms::{Label, LocalName, Node, NodeNo};
 
 // A line for each record: label a, name n, node 0 of name 0, a strand, its output on label 0 of node 0,
@@ -90,7 +91,7 @@ fn is_made_of_its_records(rt: HostRuntime) -> Result<(), Fail> {
     file.strand()?;
     file.step(OUTPUT, 0, 0)?;
     file.property([NONE, 0, 0, OUTPUT, 0, 0])?;
-    assert_eq!(rt; file.as_bytes(), FIRST);
+    assert_eq!(rt; file.as_bytes(), FIRST.as_slice());
     Ok(())
 }
 

@@ -10,6 +10,7 @@ use crate::tests::support::*;
 use sheet::Sheet;
 use std::alloc::{AllocError, Global};
 use std::process::Abort;
+use std::test::Fail;
 
 const RICH: [Entry<'static>; 8] = [
     Step(INPUT, 0, 1),

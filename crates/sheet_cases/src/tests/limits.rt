@@ -6,6 +6,7 @@ use crate::kind::*;
 use crate::tests::support::*;
 use std::alloc::{AllocError, Global};
 use std::process::Abort;
+use std::test::Fail;
 
 // A table of the sheet, and the file round it.
 struct Table<'a> {
@@ -140,19 +141,19 @@ fn fill(file: &mut SheetFile, table: &Table) -> Result<(), AllocError> {
 }
 
 // A full table is taken, and nothing more in it.
-fn expect_table(rt: &impl Abort, heap: Global, table: &Table) -> Result<(), Fail> {
+fn expect_table(rt: &impl Abort, heap: Global, table: &Table, i: usize) -> Result<(), Fail> {
     let mut file = SheetFile::new(heap);
     file.entries(table.before)?;
     fill(&mut file, table)?;
     expect_cases(rt, heap, &file, table.past)?;
     file.entries(table.after)?;
-    expect_whole(rt, heap, &file)
+    expect_whole_at(rt, heap, &file, i)
 }
 
 #[test]
 fn each_table(rt: HostRuntime) -> Result<(), Fail> {
     for (i, table) in TABLES.iter().enumerate() {
-        expect_table(&rt, rt.alloc(), table).note(format_args!("table {i}"))?;
+        expect_table(&rt, rt.alloc(), table, i)?;
     }
     Ok(())
 }

@@ -6,6 +6,7 @@ use crate::kind::*;
 use crate::tests::base::*;
 use crate::tests::support::*;
 use std::alloc::{AllocError, Global};
+use std::test::Fail;
 
 // what no node may be after the 20 nodes of the base
 const BAD: [Entry<'static>; 25] = [

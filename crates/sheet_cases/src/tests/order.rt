@@ -5,6 +5,7 @@ use crate::file::SheetFile;
 use crate::kind::*;
 use crate::tests::base::*;
 use crate::tests::support::*;
+use std::test::Fail;
 
 // no record is of these kinds; 257 has the low byte of a label's
 const UNKNOWN: [Entry<'static>; 4] = [

@@ -4,6 +4,7 @@ use crate::entry::Entry::*;
 use crate::kind::*;
 use crate::tests::base::*;
 use crate::tests::support::*;
+use std::test::Fail;
 
 // after a strand that binds x, and leaves y and z free
 const BAD: [Entry<'static>; 24] = [

@@ -4,6 +4,7 @@ use crate::entry::Entry::*;
 use crate::kind::*;
 use crate::tests::base::*;
 use crate::tests::support::*;
+use std::test::Fail;
 
 // what no step may be; n is closed, so that no variable is in the way
 const BAD: [Entry<'static>; 30] = [

@@ -59,7 +59,8 @@ pub fn expect_cases(
     for (i, case) in cases.iter().enumerate() {
         let mut file = base.clone()?;
         file.entries(case.0)?;
-        expect(rt, heap, &file, refused(case.1, case.2)).note(format_args!("case {i}"))?;
+        let reply = reply_to(heap, file.as_bytes())?;
+        assert_eq!(rt; reply, refused(case.1, case.2), "case {i}");
     }
     Ok(())
 }
@@ -77,9 +78,8 @@ pub fn expect_each(
         for (i, e) in next.iter().enumerate() {
             let mut file = base.clone()?;
             file.entry(*e)?;
-            expect(rt, heap, &file, refused(number, place.record())).note(format_args!(
-                "entry {i}"
-            ))?;
+            let reply = reply_to(heap, file.as_bytes())?;
+            assert_eq!(rt; reply, refused(number, place.record()), "entry {i}");
         }
     }
     Ok(())
@@ -90,6 +90,21 @@ pub fn expect_whole(rt: &impl Abort, heap: Global, file: &SheetFile) -> Result<(
     let mut sheet = Sheet::new(heap)?;
     expect_into(rt, heap, &mut sheet, file.as_bytes(), Reply::Taken)?;
     expect_sheet(rt, heap, &sheet, file.as_bytes())
+}
+
+// The same of one of a row of files, which a failure names by its place in the row.
+pub fn expect_whole_at(
+    rt: &impl Abort,
+    heap: Global,
+    file: &SheetFile,
+    i: usize,
+) -> Result<(), Fail> {
+    let mut sheet = Sheet::new(heap)?;
+    let reply = Reply::of(sheet.read(heap, file.as_bytes()))?;
+    assert_eq!(rt; reply, Reply::Taken, "file {i}");
+    let written = file_of(heap, &sheet)?;
+    assert_eq!(rt; written.as_bytes(), file.as_bytes(), "file {i}");
+    Ok(())
 }
 
 // Each of these may come next, where the rest then ends the file.
@@ -104,7 +119,7 @@ pub fn expect_taken(
         let mut file = base.clone()?;
         file.entries(*entries)?;
         file.entries(rest)?;
-        expect_whole(rt, heap, &file).note(format_args!("entries {i}"))?;
+        expect_whole_at(rt, heap, &file, i)?;
     }
     Ok(())
 }

@@ -3,9 +3,11 @@ use crate::entry::Entry;
 use crate::entry::Entry::*;
 use crate::file::SheetFile;
 use crate::kind::*;
+use crate::reply::reply_to;
 use crate::tests::support::*;
 use std::alloc::Global;
 use std::process::Abort;
+use std::test::Fail;
 
 const BAD: [&'static [u8]; 12] = [
     b"",
@@ -25,11 +27,12 @@ const BAD: [&'static [u8]; 12] = [
 ];
 
 // A label, a name and a variable with this text are each refused.
-fn expect_bad(rt: &impl Abort, heap: Global, text: &[u8]) -> Result<(), Fail> {
+fn expect_bad(rt: &impl Abort, heap: Global, text: &[u8], i: usize) -> Result<(), Fail> {
     for kind in 1..4 {
         let mut file = SheetFile::new(heap);
         file.record(kind, text)?;
-        expect(rt, heap, &file, refused(4, 0)).note(format_args!("kind {kind}"))?;
+        let reply = reply_to(heap, file.as_bytes())?;
+        assert_eq!(rt; reply, refused(4, 0), "text {i}, kind {kind}");
     }
     Ok(())
 }
@@ -37,7 +40,7 @@ fn expect_bad(rt: &impl Abort, heap: Global, text: &[u8]) -> Result<(), Fail> {
 #[test]
 fn bad_texts(rt: HostRuntime) -> Result<(), Fail> {
     for (i, text) in BAD.iter().enumerate() {
-        expect_bad(&rt, rt.alloc(), *text).note(format_args!("text {i}"))?;
+        expect_bad(&rt, rt.alloc(), *text, i)?;
     }
     Ok(())
 }
@@ -52,20 +55,20 @@ const REST: [Entry<'static>; 3] = [
 ];
 
 // Two labels, two names and two variables may all have this text.
-fn expect_good(rt: &impl Abort, heap: Global, text: &[u8]) -> Result<(), Fail> {
+fn expect_good(rt: &impl Abort, heap: Global, text: &[u8], i: usize) -> Result<(), Fail> {
     let mut file = SheetFile::new(heap);
     for kind in 1..4 {
         file.record(kind, text)?;
         file.record(kind, text)?;
     }
     file.entries(&REST)?;
-    expect_whole(rt, heap, &file)
+    expect_whole_at(rt, heap, &file, i)
 }
 
 #[test]
 fn good_texts(rt: HostRuntime) -> Result<(), Fail> {
     for (i, text) in GOOD.iter().enumerate() {
-        expect_good(&rt, rt.alloc(), *text).note(format_args!("text {i}"))?;
+        expect_good(&rt, rt.alloc(), *text, i)?;
     }
     Ok(())
 }

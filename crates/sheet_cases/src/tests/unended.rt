@@ -4,6 +4,7 @@ use crate::file::SheetFile;
 use crate::kind::*;
 use crate::tests::base::Place;
 use crate::tests::support::*;
+use std::test::Fail;
 
 const SHORT: [Case<'static>; 6] = [
     // the empty file

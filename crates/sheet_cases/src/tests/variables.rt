@@ -4,6 +4,7 @@ use crate::entry::Entry::*;
 use crate::kind::*;
 use crate::tests::base::*;
 use crate::tests::support::*;
+use std::test::Fail;
 
 const TWICE: [Case<'static>; 10] = [
     // in one strand

@@ -5,6 +5,7 @@ use crate::file::SheetFile;
 use crate::kind::*;
 use crate::tests::base::*;
 use crate::tests::support::*;
+use std::test::Fail;
 
 // Each has a later fault too, with a smaller number or at the end.
 const FIRST_FAULTS: [Case<'static>; 8] = [

@@ -10,7 +10,7 @@ loop-node-init c = forms_none (content_of c.args.sheet.now) _ _ c.new-table.ensu
 pub loop-node-preserved : goal.loop-node-preserved
 loop-node-preserved c =
     let C = content_of c.args.sheet.now in
-    forms_more C.names C.variables (forms C) _ _ _ c.push-node.new.out _ c.loop-node.node-index _ (omega arith) c.new-form.ensures.bytes c.as-slice.ensures.value c.in-ok-push-node.ensures c.in-ok-push.ensures.items c.loop-node.invariant
+    forms_more C.names C.variables (forms C) _ _ _ c.push_node.new.out _ c.loop-node.node-index _ (omega arith) c.new-form.ensures.bytes c.as_slice.ensures.value c.in_ok-push_node.ensures c.in_ok-push.ensures.items c.loop-node.invariant
 
 pub returns : goal.returns
 returns c =

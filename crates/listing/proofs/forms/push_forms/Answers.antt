@@ -9,7 +9,7 @@ loop-i-init c = start _
 
 pub loop-i-preserved : goal.loop-i-preserved
 loop-i-preserved c =
-    let t = same (ap (form_line c.loop-i.i) c.as-str.ensures.value) c.in-ok-push-form.ensures in
+    let t = same (ap (form_line c.loop-i.i) c.as_str.ensures.value) c.in_ok-push_form.ensures in
     seen_more string_bytes form_line c.args.forms.now c.loop-i.i c.index-forms-i.result (omega arith) c.index-forms-i.is c.loop-i.invariant t
 
 pub returns : goal.returns

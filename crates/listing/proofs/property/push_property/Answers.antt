@@ -4,8 +4,8 @@ use Rattle.listing.proofs.property.push_property.Goals as goal
 
 pub returns : goal.returns
 returns c =
-    let a = more (start (string_bytes c.args.out.now)) (codes "property ") c.in-ok-push-str.ensures.bytes in
-    let b = then a c.in-ok-push-action.ensures in
-    let d = more b (codes " ") c.in-ok-push-str-2.ensures.bytes in
-    let e = then d c.in-ok-push-earlier.ensures in
-    more_last c.push-str-3.result e (codes "\n") c.push-str-3.ensures.bytes
+    let a = more (start (string_bytes c.args.out.now)) (codes "property ") c.in_ok-push_str.ensures.bytes in
+    let b = then a c.in_ok-push_action.ensures in
+    let d = more b (codes " ") c.in_ok-push_str-2.ensures.bytes in
+    let e = then d c.in_ok-push_earlier.ensures in
+    more_last c.push_str-3.result e (codes "\n") c.push_str-3.ensures.bytes

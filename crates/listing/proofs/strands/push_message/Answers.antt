@@ -5,7 +5,7 @@ use Rattle.listing.proofs.strands.push_message.Goals as goal
 
 pub returns : goal.returns
 returns c =
-    let a = more (start (string_bytes c.args.out.now)) c.args.word.now c.in-ok-push-str.ensures.bytes in
-    let b = then a (same (ap (λ (ts : List (List ℕ)). text ts c.args.label.0) c.labels.ensures) c.in-ok-push-at.ensures) in
-    let d = more b (codes " ") c.in-ok-push-str-2.ensures.bytes in
-    then_last _ _ c.push-term.result d c.push-term.ensures
+    let a = more (start (string_bytes c.args.out.now)) c.args.word.now c.in_ok-push_str.ensures.bytes in
+    let b = then a (same (ap (λ (ts : List (List ℕ)). text ts c.args.label.0) c.labels.ensures) c.in_ok-push_at.ensures) in
+    let d = more b (codes " ") c.in_ok-push_str-2.ensures.bytes in
+    then_last _ _ c.push_term.result d c.push_term.ensures

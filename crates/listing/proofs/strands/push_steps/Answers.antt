@@ -10,7 +10,7 @@ loop-i-init c = start _
 
 pub loop-i-preserved : goal.loop-i-preserved
 loop-i-preserved c =
-    read_more (step_line (content_of c.args.sheet.now) (map string_bytes c.args.forms.now)) c.args.steps.now c.loop-i.i _ (omega arith) c.loop-i.invariant c.in-ok-push-step-line.ensures
+    read_more (step_line (content_of c.args.sheet.now) (map string_bytes c.args.forms.now)) c.args.steps.now c.loop-i.i _ (omega arith) c.loop-i.invariant c.in_ok-push_step_line.ensures
 
 pub returns : goal.returns
 returns c =

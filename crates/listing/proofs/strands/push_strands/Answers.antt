@@ -12,7 +12,7 @@ loop-k-init c = start _
 
 pub loop-k-preserved : goal.loop-k-preserved
 loop-k-preserved c =
-    seen_more steps_of (strand_lines (content_of c.args.sheet.now) (map string_bytes c.args.forms.now)) c.strands-strand-items.result.now c.loop-k.k c.strand-item.result (omega arith) c.strand-item.is c.loop-k.invariant c.in-ok-push-strand.ensures
+    seen_more steps_of (strand_lines (content_of c.args.sheet.now) (map string_bytes c.args.forms.now)) c.strands-strand-items.result.now c.loop-k.k c.strand-item.result (omega arith) c.strand-item.is c.loop-k.invariant c.in_ok-push_strand.ensures
 
 pub returns : goal.returns
 returns c =

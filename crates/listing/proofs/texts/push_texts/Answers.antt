@@ -10,7 +10,7 @@ loop-i-init c = start _
 
 pub loop-i-preserved : goal.loop-i-preserved
 loop-i-preserved c =
-    seen_more bytes_of (text_line c.args.word.now) c.args.texts.now c.loop-i.i c.index-texts-i.result (omega arith) c.index-texts-i.is c.loop-i.invariant c.in-ok-push-text-line.ensures
+    seen_more bytes_of (text_line c.args.word.now) c.args.texts.now c.loop-i.i c.index-texts-i.result (omega arith) c.index-texts-i.is c.loop-i.invariant c.in_ok-push_text_line.ensures
 
 pub returns : goal.returns
 returns c = seen_all bytes_of (text_line c.args.word.now) c.args.texts.now c.loop-i.i (omega arith) c.loop-i.invariant

@@ -1,4 +1,4 @@
-use Rattle.std.proofs.Common.{◌+◌, ◌<◌, ◌≤◌, List, [], ◌∷◌, length, vec_items, sym, refl, ap, ◌∙◌, subst, inl, inr, arith, length-append}
+use Rattle.std.proofs.Common.{◌<◌, List, [], ◌∷◌, length, vec_items, sym, refl, ap, ◌∙◌, subst, inl, inr, arith, length-append}
 use Rattle.stack.specs.Waiting.{waiting}
 use Rattle.terms.specs.declared.number.NodeNo.{NodeNo}
 use Rattle.unification.specs.Classes.{United}

@@ -1,10 +1,7 @@
-use Rattle.std.proofs.Common.{◌≡◌, ℕ, ◌+◌, ◌<◌, ◌≤◌, List, [], ◌∷◌, ◌++◌, length, vec_items, vec_len, refl, ap, ◌∙◌, arith, length-append}
+use Rattle.std.proofs.Common.{◌≡◌, List, [], ◌∷◌, ◌++◌, length, vec_items, refl, ap, ◌∙◌, arith, length-append}
 use Rattle.stack.specs.Waiting.{waiting}
-use Rattle.terms.specs.declared.number.NodeNo.{NodeNo}
 use Rattle.terms.specs.declared.node.Node.{Node}
-use Rattle.unification.specs.Steps.{heads}
 use Rattle.unification.specs.declared.ask.Ask.{Ask}
-use Rattle.unification.specs.declared.binding.Binding.{Binding}
 use Rattle.unification.proofs.Moves.{ask}
 use Rattle.unification.proofs.Tracing.{traced_own}
 use Rattle.unification.proofs.Running.{running_starts, running_room, running_on, running_less, running_stops, running_ends}
@@ -59,6 +56,6 @@ returns c =
     let r = c.loop-w.invariant.0 in
     let w : waiting c.wait.new.asks ≡ ask c.args.a.0 c.args.b.0 ∷ [] = c.wait.ensures.items ∙ ap (λ (W : List Ask). W ++ (ask c.args.a.0 c.args.b.0 ∷ [])) c.new-asks.ensures.empty in
     record {
-      answer = running_ends (vec_items c.args.nodes.now.nodes) (vec_items c.args.bindings.now.list) (waiting c.wait.new.asks) c.args.a.0 c.args.b.0 (vec_items c.loop-w.bindings.list) (vec_items c.loop-w.classes.parents) (waiting c.loop-w.asks) w c.in-default.ensures.items.0 r;
+      answer = running_ends (vec_items c.args.nodes.now.nodes) (vec_items c.args.bindings.now.list) (waiting c.wait.new.asks) c.args.a.0 c.args.b.0 (vec_items c.loop-w.bindings.list) (vec_items c.loop-w.classes.parents) (waiting c.loop-w.asks) w c.in_default.ensures.items.0 r;
       fits = omega (arith, r.fits, c.requires.fits, c.loop-w.classes.parents.ok.0);
     }

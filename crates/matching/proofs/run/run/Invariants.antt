@@ -1,4 +1,4 @@
-use Rattle.std.proofs.Common.{◌≡◌, vec_items, vec_len}
+use Rattle.std.proofs.Common.{◌≡◌, vec_items}
 use Rattle.stack.specs.Waiting.{waiting, room}
 use Rattle.unification.specs.Steps.{Running, effort}
 use Rattle.matching.proofs.run.run.Given as goal

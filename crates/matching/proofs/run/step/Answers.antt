@@ -16,22 +16,22 @@ use Rattle.matching.proofs.run.step.Goals as goal
 pub walk-c-requires : goal.walk-c-requires
 walk-c-requires c =
     let ns : List Node = vec_items c.args.nodes.now.nodes in
-    let t : List Node = c.as-slice-table.result.now in
-    let e : t ≡ ns = c.as-slice-table.ensures in
+    let t : List Node = c.as_slice-table.result.now in
+    let e : t ≡ ns = c.as_slice-table.ensures in
     record { ordered = ordered_as t ns e c.args.nodes.now.ordered; good = good_as t ns (vec_items c.args.bindings.now.list) e c.requires.good; named = named_as t ns e c.args.nodes.now.narrow; within = omega (arith, ap length e, c.requires.left) }
 
 pub walk-d-requires : goal.walk-d-requires
 walk-d-requires c =
     let ns : List Node = vec_items c.args.nodes.now.nodes in
-    let t : List Node = c.as-slice-table.result.now in
-    let e : t ≡ ns = c.as-slice-table.ensures in
+    let t : List Node = c.as_slice-table.result.now in
+    let e : t ≡ ns = c.as_slice-table.ensures in
     record { ordered = ordered_as t ns e c.args.nodes.now.ordered; good = good_as t ns (vec_items c.args.bindings.now.list) e c.requires.good; named = named_as t ns e c.args.nodes.now.narrow; within = omega (arith, ap length e, c.requires.right) }
 
 pub assign-requires : goal.assign-requires
 assign-requires c =
     let ns : List Node = vec_items c.args.nodes.now.nodes in
-    let t : List Node = c.as-slice-table.result.now in
-    let e : t ≡ ns = c.as-slice-table.ensures in
+    let t : List Node = c.as_slice-table.result.now in
+    let e : t ≡ ns = c.as_slice-table.ensures in
     let wc = subst (λ (m : List Node). Walked m (vec_items c.args.bindings.now.list) c.args.w.left.0 c.walk-c.result.0) e c.walk-c.ensures in
     let wd = subst (λ (m : List Node). Walked m (vec_items c.args.bindings.now.list) c.args.w.right.0 c.walk-d.result.0) e c.walk-d.ensures in
     let tells = subst (λ (m : List Node). Tells (node m c.walk-c.result.0) (node m c.walk-d.result.0) (Left c.in-Left.x)) e c.in-Left.ensures in
@@ -46,8 +46,8 @@ assign-requires c =
 pub assign-requires-in-Right : goal.assign-requires-in-Right
 assign-requires-in-Right c =
     let ns : List Node = vec_items c.args.nodes.now.nodes in
-    let t : List Node = c.as-slice-table.result.now in
-    let e : t ≡ ns = c.as-slice-table.ensures in
+    let t : List Node = c.as_slice-table.result.now in
+    let e : t ≡ ns = c.as_slice-table.ensures in
     let wc = subst (λ (m : List Node). Walked m (vec_items c.args.bindings.now.list) c.args.w.left.0 c.walk-c.result.0) e c.walk-c.ensures in
     let wd = subst (λ (m : List Node). Walked m (vec_items c.args.bindings.now.list) c.args.w.right.0 c.walk-d.result.0) e c.walk-d.ensures in
     let tells = subst (λ (m : List Node). Tells (node m c.walk-c.result.0) (node m c.walk-d.result.0) (Right c.in-Right.y)) e c.in-Right.ensures in
@@ -62,8 +62,8 @@ assign-requires-in-Right c =
 pub returns-in-Same : goal.returns-in-Same
 returns-in-Same c =
     let ns : List Node = vec_items c.args.nodes.now.nodes in
-    let t : List Node = c.as-slice-table.result.now in
-    let e : t ≡ ns = c.as-slice-table.ensures in
+    let t : List Node = c.as_slice-table.result.now in
+    let e : t ≡ ns = c.as_slice-table.ensures in
     let B : List Binding = vec_items c.args.bindings.now.list in
     let P : List NodeNo = vec_items c.args.classes.now.parents in
     let W : List Ask = waiting c.args.asks.now in
@@ -76,8 +76,8 @@ returns-in-Same c =
 pub returns-in-Clash : goal.returns-in-Clash
 returns-in-Clash c =
     let ns : List Node = vec_items c.args.nodes.now.nodes in
-    let t : List Node = c.as-slice-table.result.now in
-    let e : t ≡ ns = c.as-slice-table.ensures in
+    let t : List Node = c.as_slice-table.result.now in
+    let e : t ≡ ns = c.as_slice-table.ensures in
     let B : List Binding = vec_items c.args.bindings.now.list in
     let P : List NodeNo = vec_items c.args.classes.now.parents in
     let W : List Ask = waiting c.args.asks.now in
@@ -90,8 +90,8 @@ returns-in-Clash c =
 pub returns-in-Left : goal.returns-in-Left
 returns-in-Left c =
     let ns : List Node = vec_items c.args.nodes.now.nodes in
-    let t : List Node = c.as-slice-table.result.now in
-    let e : t ≡ ns = c.as-slice-table.ensures in
+    let t : List Node = c.as_slice-table.result.now in
+    let e : t ≡ ns = c.as_slice-table.ensures in
     let B : List Binding = vec_items c.args.bindings.now.list in
     let P : List NodeNo = vec_items c.args.classes.now.parents in
     let W : List Ask = waiting c.args.asks.now in
@@ -104,8 +104,8 @@ returns-in-Left c =
 pub returns-in-Right : goal.returns-in-Right
 returns-in-Right c =
     let ns : List Node = vec_items c.args.nodes.now.nodes in
-    let t : List Node = c.as-slice-table.result.now in
-    let e : t ≡ ns = c.as-slice-table.ensures in
+    let t : List Node = c.as_slice-table.result.now in
+    let e : t ≡ ns = c.as_slice-table.ensures in
     let B : List Binding = vec_items c.args.bindings.now.list in
     let P : List NodeNo = vec_items c.args.classes.now.parents in
     let W : List Ask = waiting c.args.asks.now in
@@ -118,8 +118,8 @@ returns-in-Right c =
 pub returns-in-Parts : goal.returns-in-Parts
 returns-in-Parts c =
     let ns : List Node = vec_items c.args.nodes.now.nodes in
-    let t : List Node = c.as-slice-table.result.now in
-    let e : t ≡ ns = c.as-slice-table.ensures in
+    let t : List Node = c.as_slice-table.result.now in
+    let e : t ≡ ns = c.as_slice-table.ensures in
     let B : List Binding = vec_items c.args.bindings.now.list in
     let P : List NodeNo = vec_items c.args.classes.now.parents in
     let W : List Ask = waiting c.args.asks.now in

@@ -9,7 +9,7 @@ loop-i-init g c = (length-replicate _ _, refl)
 pub loop-i-preserved : goal.loop-i-preserved
 loop-i-preserved g c =
     let l = c.loop-i in
-    (simp length-set l.invariant.0, row_more l.ws c.args.body.now l.i c.word-at.result (omega arith) (omega arith) l.invariant.1 c.word-at.ensures.low c.word-at.ensures.high)
+    (simp length-set l.invariant.0, row_more l.ws c.args.body.now l.i c.word_at.result (omega arith) (omega arith) l.invariant.1 c.word_at.ensures.low c.word_at.ensures.high)
 
 pub returns : goal.returns
 returns g c =

@@ -1,5 +1,5 @@
-use Rattle.std.proofs.Common.{◌≡◌, map, vec_items, vec_len, sym, refl, ap, ◌∙◌, arith}
-use Rattle.std.proofs.lemmas.List.{length-map, map_push}
+use Rattle.std.proofs.Common.{◌≡◌, vec_items, vec_len, refl, arith}
+use Rattle.std.proofs.lemmas.List.{length-map}
 use Rattle.sheet.specs.View.{bytes_of}
 use Rattle.sheet.proofs.Entering.{text_pushed}
 use Rattle.sheet.proofs.add.add_text.Goals as goal
@@ -12,13 +12,13 @@ returns-then-len-most c =
     let l : c.len.result ≡ vec_len s = c.len.ensures in
     (refl, omega arith)
 
-pub returns-in-default : goal.returns-in-default
-returns-in-default c =
+pub returns-in_default : goal.returns-in_default
+returns-in_default c =
     let s = c.args.table.now in
     let e = length-map (vec_items s) bytes_of in
     let v = s.ok.0 in
     let l : c.len.result ≡ vec_len s = c.len.ensures in
-    (refl, omega arith, c.in-default.ensures)
+    (refl, omega arith, c.in_default.ensures)
 
 pub returns : goal.returns
 returns c =
@@ -27,4 +27,4 @@ returns c =
     let v = s.ok.0 in
     let l : c.len.result ≡ vec_len s = c.len.ensures in
     let h = c.in-Some.ensures in
-    (omega arith, h.0, text_pushed _ _ _ _ h.1 c.in-ok-push.ensures.items)
+    (omega arith, h.0, text_pushed _ _ _ _ h.1 c.in_ok-push.ensures.items)

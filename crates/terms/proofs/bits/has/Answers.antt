@@ -1,4 +1,4 @@
-use Rattle.std.proofs.Common.{◌≡◌, arith}
+use Rattle.std.proofs.Common.{arith}
 use Rattle.terms.proofs.Bitsets.{digit_decided, wide_decided}
 use Rattle.terms.proofs.bits.has.Goals as goal
 

@@ -1,4 +1,4 @@
-use Rattle.std.proofs.Common.{◌≡◌, ℕ, suc, ◌+◌, ◌-◌, ◌<◌, ◌≤◌, List, length, get_or, vec_items, sym, ap, ◌∙◌, subst, arith}
+use Rattle.std.proofs.Common.{◌≡◌, ℕ, suc, ◌-◌, ◌<◌, List, length, get_or, vec_items, sym, ap, ◌∙◌, subst, arith}
 use Rattle.terms.specs.declared.node.Node.{Node}
 use Rattle.unification.specs.declared.binding.Binding.{Binding}
 use Rattle.unification.proofs.Indexing.{Reached, indexed_out, hop, free}
@@ -24,7 +24,7 @@ index-requires-in-Var c =
     omega (arith, s.list.ok.0, ((indexed_out (vec_items s.list) I s.indexed).1 x (c.index.result.now - 1) h e).0)
 
 -- one hop further
-hopped : (c : goal.After-here·1) → (c.loop-here.low < c.index.result.now) × Reached c.args.nodes.now (vec_items c.args.self.now.list) c.args.n.0 c.index-in-Var.result.now.node.0 c.index.result.now
+hopped : (c : goal.After-here-1) → (c.loop-here.low < c.index.result.now) × Reached c.args.nodes.now (vec_items c.args.self.now.list) c.args.n.0 c.index-in-Var.result.now.node.0 c.index.result.now
 hopped c =
     let s = c.args.self.now in
     let ns : List Node = c.args.nodes.now in

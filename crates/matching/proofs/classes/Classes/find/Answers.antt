@@ -1,4 +1,4 @@
-use Rattle.std.proofs.Common.{◌≡◌, ℕ, ◌<◌, ◌≤◌, List, length, vec_items, sym, ◌∙◌, arith}
+use Rattle.std.proofs.Common.{◌<◌, ◌≤◌, List, length, vec_items, sym, ◌∙◌, arith}
 use Rattle.terms.specs.declared.number.NodeNo.{NodeNo}
 use Rattle.unification.proofs.Joining.{way_none, way_on}
 use Rattle.matching.proofs.Lookups.{parent_read}

@@ -5,7 +5,12 @@ use Rattle.unification.proofs.Goodness.{good_front}
 use Rattle.matching.specs.Matchings.{nodes_of, bound}
 use Rattle.matching.proofs.matching.Matching.cut.Goals as goal
 
-pub invariant-of-self : goal.invariant-of-self
-invariant-of-self c =
+pub invariant_of-self : goal.invariant_of-self
+invariant_of-self c =
     let m = c.args.self.now in
-    (subst (λ (B : List Binding). ∥ Good (nodes_of m) B ∥₁) (sym c.cut.ensures) (good_front (nodes_of m) (bound m) c.args.n m.good), (m.fits, (m.calm, (m.roomy, tt))))
+    record {
+      good = subst (λ (B : List Binding). ∥ Good (nodes_of m) B ∥₁) (sym c.cut.ensures) (good_front (nodes_of m) (bound m) c.args.n m.good);
+      fits = m.fits;
+      calm = m.calm;
+      roomy = m.roomy;
+    }

@@ -21,9 +21,9 @@ loop-w-preserved c =
     let w : Ask = get_or ps k no_ask in
     let here = one_more ps k c.loop-w-test.true in
     let nodes : nodes_of n ≡ nodes_of m = c.loop-w.invariant.2 in
-    let e = c.in-ok-matches.ensures in
-    let longer = match_longer (nodes_of n) (bound n) w.left.0 w.right.0 (Ok c.in-ok-matches.field-0) (bound z) e.answer in
-    let front = match_front (nodes_of n) (bound n) w.left.0 w.right.0 (Ok c.in-ok-matches.field-0) (bound z) e.answer in
+    let e = c.in_ok-matches.ensures in
+    let longer = match_longer (nodes_of n) (bound n) w.left.0 w.right.0 (Ok c.in_ok-matches.field-0) (bound z) e.answer in
+    let front = match_front (nodes_of n) (bound n) w.left.0 w.right.0 (Ok c.in_ok-matches.field-0) (bound z) e.answer in
     let yes-now = subst (λ (v : Bool). Matches (nodes_of n) (bound n) w.left.0 w.right.0 (Ok v) (bound z)) c.if-not-branch.false e.answer in
     let h = subst (λ (t : List Node). Matches t (bound n) w.left.0 w.right.0 (Ok true) (bound z)) nodes yes-now in (
       e.same ∙ c.loop-w.invariant.0,
@@ -34,8 +34,8 @@ loop-w-preserved c =
       joint_on (nodes_of m) (bound m) ps k w here (bound n) (bound z) c.loop-w.invariant.5 h,
     )
 
-pub returns-in-err-matches : goal.returns-in-err-matches
-returns-in-err-matches c =
+pub returns-in_err-matches : goal.returns-in_err-matches
+returns-in_err-matches c =
     let m = c.args.self.now.matching.now in
     let n = c.loop-w.self.matching.now in
     let z = c.matches.new.self.matching.now in
@@ -44,16 +44,16 @@ returns-in-err-matches c =
     let w : Ask = get_or ps k no_ask in
     let here = one_more ps k c.loop-w-test.true in
     let nodes : nodes_of n ≡ nodes_of m = c.loop-w.invariant.2 in
-    let e = c.in-err-matches.ensures in
-    let front = match_front (nodes_of n) (bound n) w.left.0 w.right.0 (Err c.in-err-matches.field-0.0) (bound z) e.answer in
-    let h = subst (λ (t : List Node). Matches t (bound n) w.left.0 w.right.0 (Err c.in-err-matches.field-0.0) (bound z)) nodes e.answer in
+    let e = c.in_err-matches.ensures in
+    let front = match_front (nodes_of n) (bound n) w.left.0 w.right.0 (Err c.in_err-matches.field-0.0) (bound z) e.answer in
+    let h = subst (λ (t : List Node). Matches t (bound n) w.left.0 w.right.0 (Err c.in_err-matches.field-0.0) (bound z)) nodes e.answer in
     let g : ∥ Good (nodes_of m) (bound n) ∥₁ = subst (λ (t : List Node). ∥ Good t (bound n) ∥₁) nodes n.good in
     record {
       same = e.same ∙ c.loop-w.invariant.0;
       mark = e.mark ∙ c.loop-w.invariant.1;
       nodes = e.nodes ∙ nodes;
       front = λ i l. front i (omega (arith, c.loop-w.invariant.3)) ∙ c.loop-w.invariant.4 i l;
-      answer = when_refused (nodes_of m) (bound m) ps c.from-residual.result c.from-residual.ensures.0 (joint_refused (nodes_of m) (bound m) ps k w here c.in-err-matches.field-0.0 (bound n) (bound z) c.loop-w-test.true g c.loop-w.invariant.5 h);
+      answer = when_refused (nodes_of m) (bound m) ps c.from_residual.result c.from_residual.ensures.0 (joint_refused (nodes_of m) (bound m) ps k w here c.in_err-matches.field-0.0 (bound n) (bound z) c.loop-w-test.true g c.loop-w.invariant.5 h);
     }
 
 pub returns-then-not-branch : goal.returns-then-not-branch
@@ -66,8 +66,8 @@ returns-then-not-branch c =
     let w : Ask = get_or ps k no_ask in
     let here = one_more ps k c.loop-w-test.true in
     let nodes : nodes_of n ≡ nodes_of m = c.loop-w.invariant.2 in
-    let e = c.in-ok-matches.ensures in
-    let front = match_front (nodes_of n) (bound n) w.left.0 w.right.0 (Ok c.in-ok-matches.field-0) (bound z) e.answer in
+    let e = c.in_ok-matches.ensures in
+    let front = match_front (nodes_of n) (bound n) w.left.0 w.right.0 (Ok c.in_ok-matches.field-0) (bound z) e.answer in
     let no-now = subst (λ (v : Bool). Matches (nodes_of n) (bound n) w.left.0 w.right.0 (Ok v) (bound z)) c.if-not-branch.true e.answer in
     let h = subst (λ (t : List Node). Matches t (bound n) w.left.0 w.right.0 (Ok false) (bound z)) nodes no-now in
     record {

@@ -1,4 +1,4 @@
-use Rattle.std.proofs.Common.{◌≡◌, vec_items, ◌∙◌}
+use Rattle.std.proofs.Common.{vec_items, ◌∙◌}
 use Rattle.std.proofs.lemmas.Bool.Decides.{Decides-at}
 use Rattle.terms.specs.Nodes.{term}
 use Rattle.analysis.proofs.Marking.{settled_parts}
@@ -12,5 +12,5 @@ returns c =
     let s = c.args.self.now.pages in
     let ns = vec_items s.nodes in
     let ys = numbers (vec_items s.notes) in
-    let p = settled_parts ns ys _ _ (c.settle.auto.known ∙ c.mark-noted.auto.known ∙ c.requires.size) c.mark-noted.ensures c.settle.ensures in
+    let p = settled_parts ns ys _ _ (c.settle.auto.known ∙ c.mark_noted.auto.known ∙ c.requires.size) c.mark_noted.ensures c.settle.ensures in
     Decides-at _ _ c.composes.ensures (decided ns ys _ (lawful_ordered ns s.lawful) s.held p (term ns c.args.place.0))

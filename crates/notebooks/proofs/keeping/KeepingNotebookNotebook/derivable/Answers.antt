@@ -1,4 +1,4 @@
-use Rattle.std.proofs.Common.{◌≡◌, ◌<◌, Bool, List, length, vec_items, sym, ap, ◌∙◌, subst, arith}
+use Rattle.std.proofs.Common.{◌<◌, Bool, List, length, vec_items, ap, ◌∙◌, arith}
 use Rattle.std.proofs.lemmas.Bool.Decides.{Decides-at}
 use Rattle.terms.specs.Nodes.{term}
 use Rattle.analysis.specs.Parts.{knows, composed}
@@ -17,6 +17,6 @@ returns c =
     let v = s.nodes.ok.0 in
     let l : c.args.place.0 < length ns = omega arith in
     let t = term ns c.args.place.0 in
-    let r = c.composes.ensures ∙ ap (λ (x : List Bool). composed (knows ns x) t) c.as-slice.ensures.value in
+    let r = c.composes.ensures ∙ ap (λ (x : List Bool). composed (knows ns x) t) c.as_slice.ensures.value in
     let d = Decides-at c.composes.result (composed (knows ns known) t) r (decided ns ys known (lawful_ordered ns s.lawful) s.held (record { size = b.size; contains = b.contains; shut = b.shut; least = b.least }) t) in
     (λ e. (l, d.0 e), λ h. d.1 h.1)

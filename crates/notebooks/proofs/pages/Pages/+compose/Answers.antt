@@ -1,4 +1,4 @@
-use Rattle.std.proofs.Common.{◌≡◌, ℕ, ◌+◌, ◌-◌, ◌<◌, length, vec_items, subst, arith}
+use Rattle.std.proofs.Common.{◌+◌, ◌-◌, ◌<◌, vec_items, arith}
 use Rattle.analysis.proofs.Making.{made_more}
 use Rattle.notebooks.proofs.pages.Pages.+compose.Goals as goal
 

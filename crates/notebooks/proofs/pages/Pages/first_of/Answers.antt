@@ -1,4 +1,4 @@
-use Rattle.std.proofs.Common.{◌≡◌, vec_items, arith}
+use Rattle.std.proofs.Common.{vec_items, arith}
 use Rattle.analysis.proofs.Finding.{first_at}
 use Rattle.notebooks.specs.Paging.{first_of, size_firsts}
 use Rattle.notebooks.proofs.pages.Pages.first_of.Goals as goal

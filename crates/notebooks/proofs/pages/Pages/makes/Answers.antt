@@ -1,4 +1,4 @@
-use Rattle.std.proofs.Common.{◌≡◌, vec_items, sym, ◌∙◌, arith}
+use Rattle.std.proofs.Common.{vec_items, sym, ◌∙◌, arith}
 use Rattle.analysis.specs.Parts.{knows}
 use Rattle.analysis.proofs.Making.{made_known, made_env, made_name, made_var, made_pair_then, made_pair_else, made_seal_not, made_seal_then, made_seal_else}
 use Rattle.notebooks.specs.Paging.{lawful_ordered, node_is, pair_below, seal_below}
@@ -26,8 +26,8 @@ bounds-made-right c =
     let b = pair_below ns s.lawful _ _ _ c.requires.held n in
     omega (arith, b.1, c.requires.held, c.requires.room)
 
-pub is-name-requires : goal.is-name-requires
-is-name-requires c =
+pub is_name-requires : goal.is_name-requires
+is_name-requires c =
     let s = c.args.self.now in
     let ns = vec_items s.nodes in
     let n = node_is ns _ _ _ c.requires.held c.index.ensures c.in-Seal.is in
@@ -87,12 +87,12 @@ returns-else-made-left c =
     let b = pair_below ns s.lawful _ _ _ c.requires.held n in
     made_pair_else ns (lawful_ordered ns s.lawful) c.args.place.0 c.requires.held (knows ns c.args.known.now) _ _ n (sym c.knows.ensures ∙ c.if-knows.false) _ (c.requires.below _ b.0) c.if-made-left.false
 
-pub returns-then-not-is-name : goal.returns-then-not-is-name
-returns-then-not-is-name c =
+pub returns-then-not-is_name : goal.returns-then-not-is_name
+returns-then-not-is_name c =
     let s = c.args.self.now in
     let ns = vec_items s.nodes in
     let n = node_is ns _ _ _ c.requires.held c.index.ensures c.in-Seal.is in
-    sym (made_seal_not ns (lawful_ordered ns s.lawful) c.args.place.0 c.requires.held (knows ns c.args.known.now) _ _ n (sym c.knows.ensures ∙ c.if-knows.false) (sym c.is-name.ensures ∙ c.if-not-is-name.true))
+    sym (made_seal_not ns (lawful_ordered ns s.lawful) c.args.place.0 c.requires.held (knows ns c.args.known.now) _ _ n (sym c.knows.ensures ∙ c.if-knows.false) (sym c.is_name.ensures ∙ c.if-not-is_name.true))
 
 pub returns-then-made-body : goal.returns-then-made-body
 returns-then-made-body c =
@@ -100,7 +100,7 @@ returns-then-made-body c =
     let ns = vec_items s.nodes in
     let n = node_is ns _ _ _ c.requires.held c.index.ensures c.in-Seal.is in
     let b = seal_below ns s.lawful _ _ _ c.requires.held n in
-    made_seal_then ns (lawful_ordered ns s.lawful) c.args.place.0 c.requires.held (knows ns c.args.known.now) _ _ n (sym c.knows.ensures ∙ c.if-knows.false) (sym c.is-name.ensures ∙ c.if-not-is-name.false) _ _ (c.requires.below _ b.0) (c.requires.below _ b.1) c.if-made-body.true
+    made_seal_then ns (lawful_ordered ns s.lawful) c.args.place.0 c.requires.held (knows ns c.args.known.now) _ _ n (sym c.knows.ensures ∙ c.if-knows.false) (sym c.is_name.ensures ∙ c.if-not-is_name.false) _ _ (c.requires.below _ b.0) (c.requires.below _ b.1) c.if-made-body.true
 
 pub returns-else-made-body : goal.returns-else-made-body
 returns-else-made-body c =
@@ -108,4 +108,4 @@ returns-else-made-body c =
     let ns = vec_items s.nodes in
     let n = node_is ns _ _ _ c.requires.held c.index.ensures c.in-Seal.is in
     let b = seal_below ns s.lawful _ _ _ c.requires.held n in
-    made_seal_else ns (lawful_ordered ns s.lawful) c.args.place.0 c.requires.held (knows ns c.args.known.now) _ _ n (sym c.knows.ensures ∙ c.if-knows.false) (sym c.is-name.ensures ∙ c.if-not-is-name.false) _ (c.requires.below _ b.0) c.if-made-body.false
+    made_seal_else ns (lawful_ordered ns s.lawful) c.args.place.0 c.requires.held (knows ns c.args.known.now) _ _ n (sym c.knows.ensures ∙ c.if-knows.false) (sym c.is_name.ensures ∙ c.if-not-is_name.false) _ (c.requires.below _ b.0) c.if-made-body.false

@@ -1,4 +1,4 @@
-use Rattle.std.proofs.Common.{◌≡◌, ℕ, ◌+◌, ◌<◌, ◌≤◌, Bool, List, length, get_or, take, vec_items, sym, ap, ◌∙◌, subst, arith}
+use Rattle.std.proofs.Common.{◌≡◌, ℕ, ◌<◌, ◌≤◌, List, length, get_or, vec_items, sym, ap, ◌∙◌, subst, arith}
 use Rattle.std.proofs.lemmas.List.{take_all}
 use Rattle.terms.specs.Nodes.{term}
 use Rattle.terms.specs.declared.number.NodeNo.{NodeNo}
@@ -18,7 +18,7 @@ pub mark-requires : goal.mark-requires
 mark-requires c =
     let s = c.args.self.now in
     let ps = vec_items s.notes in
-    let e = c.as-slice-place-items.ensures.value in
+    let e = c.as_slice-place-items.ensures.value in
     let k = c.loop-place.place-index in
     let t = c.loop-place-test.true in
     let r = place_read ps _ k (record { 0 = 0 }) e t in
@@ -30,7 +30,7 @@ loop-place-preserved c =
     let s = c.args.self.now in
     let ns = vec_items s.nodes in
     let ps = vec_items s.notes in
-    let e = c.as-slice-place-items.ensures.value in
+    let e = c.as_slice-place-items.ensures.value in
     let k = c.loop-place.place-index in
     let r = place_read ps _ k (record { 0 = 0 }) e c.loop-place-test.true in
     let l : k < length (numbers ps) = omega (arith, length_numbers ps, ap length e, c.loop-place-test.true) in
@@ -45,7 +45,7 @@ returns c =
     let s = c.args.self.now in
     let ns = vec_items s.nodes in
     let ps = vec_items s.notes in
-    let e = c.as-slice-place-items.ensures.value in
+    let e = c.as_slice-place-items.ensures.value in
     let k = c.loop-place.place-index in
     let l : length (numbers ps) ≤ k = omega (arith, length_numbers ps, ap length e, c.loop-place-test.false) in
     subst (λ (ys : List ℕ). Noting ns ys c.loop-place.known) (take_all k (numbers ps) l) c.loop-place.invariant

@@ -1,4 +1,4 @@
-use Rattle.std.proofs.Common.{◌≡◌, vec_items, sym, ◌∙◌}
+use Rattle.std.proofs.Common.{vec_items, sym, ◌∙◌}
 use Rattle.analysis.specs.Parts.{knows}
 use Rattle.analysis.proofs.Making.{opens_name, opens_env, opens_var, opens_pair, opens_seal}
 use Rattle.notebooks.specs.Paging.{lawful_ordered, node_is}

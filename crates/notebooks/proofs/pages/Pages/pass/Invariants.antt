@@ -1,4 +1,4 @@
-use Rattle.std.proofs.Common.{◌≡◌, length, vec_items}
+use Rattle.std.proofs.Common.{vec_items}
 use Rattle.analysis.specs.Marks.{Passing}
 use Rattle.notebooks.proofs.pages.Pages.pass.Given as goal
 

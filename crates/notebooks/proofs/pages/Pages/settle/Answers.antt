@@ -1,5 +1,4 @@
-use Rattle.std.proofs.Common.{vec_items}
-use Rattle.analysis.proofs.Marking.{above_same, above_above, passed_above, passed_free, passed_shut}
+use Rattle.analysis.proofs.Marking.{above_above, passed_above}
 use Rattle.notebooks.proofs.pages.Pages.settle.Goals as goal
 
 pub loop-preserved : goal.loop-preserved

@@ -1,4 +1,4 @@
-use Rattle.std.proofs.Common.{◌≡◌, ◌<◌, false, length, vec_items, sym, refl, ap, ◌∙◌, arith}
+use Rattle.std.proofs.Common.{vec_items, sym, refl, ap, ◌∙◌, arith}
 use Rattle.terms.specs.Nodes.{says, term}
 use Rattle.terms.specs.declared.node.Node.{Node}
 use Rattle.analysis.specs.Parts.{knows, taken}

@@ -5,17 +5,17 @@ use Rattle.records.proofs.Scanning.{begins_more, begins_all, begins_fault, one_s
 use Rattle.records.proofs.reader.reading.scan.Goals as goal
 
 pub loop-smaller : goal.loop-smaller
-loop-smaller c = let x = rw c.in-Some.is at c.in-ok-next.ensures in shorter _ _ _ x.0
+loop-smaller c = let x = rw c.in-Some.is at c.in_ok-next.ensures in shorter _ _ _ x.0
 
 pub loop-preserved : goal.loop-preserved
-loop-preserved c = let x = rw c.in-Some.is at c.in-ok-next.ensures in begins_more _ _ _ _ _ _ c.loop.invariant x.0 x.1
+loop-preserved c = let x = rw c.in-Some.is at c.in_ok-next.ensures in begins_more _ _ _ _ _ _ c.loop.invariant x.0 x.1
 
 pub returns : goal.returns
 returns c =
-    let x = rw c.in-default.is at c.in-ok-next.ensures in
+    let x = rw c.in_default.is at c.in_ok-next.ensures in
     record { cases = begins_all _ _ _ _ c.loop.invariant x.0 (c.count.ensures ∙ x.2); unique = one_scan }
 
-pub returns-in-err-next : goal.returns-in-err-next
-returns-in-err-next c =
-    let p = err_from_is_err_and c.from-residual.result c.from-residual.ensures.1 in
-    record { cases = rw (p.1, p.2) (begins_fault _ _ _ _ _ _ c.loop.invariant c.in-err-next.ensures); unique = one_scan }
+pub returns-in_err-next : goal.returns-in_err-next
+returns-in_err-next c =
+    let p = err_from_is_err_and c.from_residual.result c.from_residual.ensures.1 in
+    record { cases = rw (p.1, p.2) (begins_fault _ _ _ _ _ _ c.loop.invariant c.in_err-next.ensures); unique = one_scan }

@@ -1,11 +1,11 @@
-use Rattle.std.proofs.Common.{◌≡◌, length, vec_items, vec_len, sym, refl, ap, ◌∙◌, arith}
+use Rattle.std.proofs.Common.{length, vec_items, sym, ap, ◌∙◌, arith}
 use Rattle.std.proofs.lemmas.List.{length-map}
 use Rattle.sheet.specs.View.{steps_of}
 use Rattle.sheet.proofs.Stepping.{latest_read}
 use Rattle.sheet.proofs.draft.Draft.latest_len.Goals as goal
 
-pub overflow-sub-len : goal.overflow-sub-len
-overflow-sub-len c =
+pub overflow_sub-len : goal.overflow_sub-len
+overflow_sub-len c =
     let t = c.args.self.now.tables in
     let e = length-map (vec_items t.strands) steps_of in
     let v = t.strands.ok.0 in

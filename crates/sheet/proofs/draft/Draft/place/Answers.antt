@@ -1,20 +1,20 @@
-use Rattle.std.proofs.Common.{◌≡◌, refl, arith}
+use Rattle.std.proofs.Common.{refl, arith}
 use Rattle.sheet.specs.View.{content}
 use Rattle.sheet.proofs.Stepping.{bound_twice, used_early, may_come}
 use Rattle.sheet.proofs.draft.Draft.place.Goals as goal
 
-pub returns-then-not-is-disjoint : goal.returns-then-not-is-disjoint
-returns-then-not-is-disjoint c =
+pub returns-then-not-is_disjoint : goal.returns-then-not-is_disjoint
+returns-then-not-is_disjoint c =
     let t = c.args.self.now.tables in
-    (refl, bound_twice (content t) _ _ _ _ c.in-Some.ensures (c.takes-step.ensures.0 c.if-not-takes-step.false) (omega arith) _ c.in-Some-shape.ensures _ _ c.requires.tracks _ c.if-not-is-disjoint.true c.is-disjoint.ensures)
+    (refl, bound_twice (content t) _ _ _ _ c.in-Some.ensures (c.takes_step.ensures.0 c.if-not-takes_step.false) (omega arith) _ c.in-Some-shape.ensures _ _ c.requires.tracks _ c.if-not-is_disjoint.true c.is_disjoint.ensures)
 
-pub returns-then-not-is-subset : goal.returns-then-not-is-subset
-returns-then-not-is-subset c =
+pub returns-then-not-is_subset : goal.returns-then-not-is_subset
+returns-then-not-is_subset c =
     let t = c.args.self.now.tables in
-    (refl, used_early (content t) _ _ _ _ c.in-Some.ensures (c.takes-step.ensures.0 c.if-not-takes-step.false) (omega arith) _ c.in-Some-shape.ensures _ _ c.requires.tracks _ c.if-not-is-subset.true c.is-subset.ensures)
+    (refl, used_early (content t) _ _ _ _ c.in-Some.ensures (c.takes_step.ensures.0 c.if-not-takes_step.false) (omega arith) _ c.in-Some-shape.ensures _ _ c.requires.tracks _ c.if-not-is_subset.true c.is_subset.ensures)
 
 pub returns : goal.returns
 returns c =
     let t = c.args.self.now.tables in
     let h = c.in-Some-shape.ensures in
-    (may_come (content t) _ _ _ _ c.in-Some.ensures (c.takes-step.ensures.0 c.if-not-takes-step.false) (omega arith) _ h _ _ c.requires.tracks (c.is-disjoint.ensures.0 c.if-not-is-disjoint.false) (c.is-subset.ensures.0 c.if-not-is-subset.false), c.in-Some.ensures, h.1)
+    (may_come (content t) _ _ _ _ c.in-Some.ensures (c.takes_step.ensures.0 c.if-not-takes_step.false) (omega arith) _ h _ _ c.requires.tracks (c.is_disjoint.ensures.0 c.if-not-is_disjoint.false) (c.is_subset.ensures.0 c.if-not-is_subset.false), c.in-Some.ensures, h.1)

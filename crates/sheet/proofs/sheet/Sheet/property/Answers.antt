@@ -1,4 +1,4 @@
-use Rattle.std.proofs.Common.{◌≡◌, true, is_some, ap}
+use Rattle.std.proofs.Common.{is_some, ap}
 use mathlib.Core.Bool.{Bool-set}
 use mathlib.Core.Logic.{∥∥₁_elim}
 use Rattle.sheet.proofs.sheet.Sheet.property.Goals as goal

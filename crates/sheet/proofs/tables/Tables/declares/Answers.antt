@@ -1,8 +1,7 @@
-use Rattle.std.proofs.Common.{◌≡◌, length, vec_items, vec_len, sym, refl, ap, ◌∙◌, arith}
-use Rattle.std.proofs.lemmas.List.{length-map, nil_from_length}
-use Rattle.std.proofs.lemmas.Bool.{eqb-true, eq-eqb, both_ways, ltb-true, lt-ltb}
-use Rattle.sheet.specs.View.{bytes_of, steps_of}
-use Rattle.sheet.proofs.Emptiness.{no_items, items_none, none_decided}
+use Rattle.std.proofs.Common.{◌≡◌, vec_items, vec_len, arith}
+use Rattle.std.proofs.lemmas.List.{length-map}
+use Rattle.std.proofs.lemmas.Bool.{ltb-true, lt-ltb}
+use Rattle.sheet.specs.View.{bytes_of}
 use Rattle.sheet.proofs.tables.Tables.declares.Goals as goal
 
 pub returns-in-Name : goal.returns-in-Name

@@ -1,4 +1,4 @@
-use Rattle.std.proofs.Common.{◌≡◌, ◌<◌, ◌≤◌, length, vec_items, vec_len, sym, refl, ap, ◌∙◌, arith}
+use Rattle.std.proofs.Common.{◌≡◌, vec_items, vec_len, arith}
 use Rattle.std.proofs.lemmas.List.{length-map}
 use Rattle.sheet.specs.View.{bytes_of, content}
 use Rattle.sheet.proofs.Shapes.{shaped_input}

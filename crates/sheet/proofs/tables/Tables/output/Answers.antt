@@ -1,4 +1,4 @@
-use Rattle.std.proofs.Common.{◌≡◌, ◌<◌, ◌≤◌, length, vec_items, vec_len, sym, refl, ap, ◌∙◌, arith}
+use Rattle.std.proofs.Common.{◌≡◌, vec_items, vec_len, arith}
 use Rattle.std.proofs.lemmas.List.{length-map}
 use Rattle.sheet.specs.View.{bytes_of, content}
 use Rattle.sheet.proofs.Shapes.{shaped_output}
@@ -18,4 +18,4 @@ returns c =
     let e = length-map (vec_items s.labels) bytes_of in
     let v = s.labels.ok.0 in
     let l : c.len.result ≡ vec_len s.labels = c.len.ensures in
-    shaped_output (content s) s.nodes.ordered _ _ _ _ (omega arith) c.in-ok-uses.ensures c.empty.ensures
+    shaped_output (content s) s.nodes.ordered _ _ _ _ (omega arith) c.in_ok-uses.ensures c.empty.ensures

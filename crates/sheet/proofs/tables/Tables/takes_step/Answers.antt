@@ -1,14 +1,14 @@
-use Rattle.std.proofs.Common.{◌≡◌, length, vec_items, sym, refl, ap, ◌∙◌, arith}
-use Rattle.std.proofs.lemmas.List.{length-map, nil_from_length}
-use Rattle.std.proofs.lemmas.Bool.{eqb-true, eq-eqb, both_ways, leb-true, le-leb}
-use Rattle.sheet.specs.View.{bytes_of, steps_of}
-use Rattle.sheet.proofs.Emptiness.{no_items, items_none, none_decided}
+use Rattle.std.proofs.Common.{vec_items, arith}
+use Rattle.std.proofs.lemmas.List.{length-map}
+use Rattle.std.proofs.lemmas.Bool.{leb-true, le-leb}
+use Rattle.sheet.specs.View.{steps_of}
+use Rattle.sheet.proofs.Emptiness.{none_decided}
 use Rattle.sheet.proofs.tables.Tables.takes_step.Goals as goal
 
 pub returns-then-len-ge1 : goal.returns-then-len-ge1
 returns-then-len-ge1 c =
     let s = c.args.self.now in
-    let d = none_decided s.property _ c.is-none.ensures in
+    let d = none_decided s.property _ c.is_none.ensures in
     let e = length-map (vec_items s.strands) steps_of in
     let v = s.strands.ok.0 in
     let l = c.len.ensures in

@@ -7,7 +7,7 @@ pub loop-e-init : goal.loop-e-init
 loop-e-init c = sym (append-nil _)
 
 pub loop-e-preserved : goal.loop-e-preserved
-loop-e-preserved c = pieces_more entry_bytes c.args.es.now c.loop-e.e-index _ _ _ _ c.loop-e-test.true c.loop-e.invariant c.in-ok-entry.ensures
+loop-e-preserved c = pieces_more entry_bytes c.args.es.now c.loop-e.e-index _ _ _ _ c.loop-e-test.true c.loop-e.invariant c.in_ok-entry.ensures
 
 pub returns : goal.returns
 returns c = pieces_all entry_bytes c.args.es.now c.loop-e.e-index _ _ c.loop-e-test.false c.loop-e.invariant

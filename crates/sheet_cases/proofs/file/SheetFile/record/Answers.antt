@@ -7,5 +7,5 @@ use Rattle.sheet_cases.proofs.file.SheetFile.record.Goals as goal
 pub returns : goal.returns
 returns c =
     wrote_after c.args.self.now c.words.new.self c.raw.new.self (flat_map word (min (length c.args.body.now) 65535 ∷ c.args.kind ∷ [])) c.args.body.now _
-    (header_is _ _ _ _ _ c.min-len.ensures c.in-ok-words.ensures)
+    (header_is _ _ _ _ _ c.min-len.ensures c.in_ok-words.ensures)
     c.raw.ensures

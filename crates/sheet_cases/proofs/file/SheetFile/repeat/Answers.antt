@@ -7,7 +7,7 @@ pub loop-init : goal.loop-init
 loop-init c = sym (append-nil _)
 
 pub loop-preserved : goal.loop-preserved
-loop-preserved c = copies_more entry_bytes c.args.e c.loop.counter _ _ _ c.loop.invariant c.in-ok-entry.ensures
+loop-preserved c = copies_more entry_bytes c.args.e c.loop.counter _ _ _ c.loop.invariant c.in_ok-entry.ensures
 
 pub returns : goal.returns
 returns c = copies_all entry_bytes c.args.e c.loop.counter c.args.times _ _ (omega arith) c.loop.invariant

@@ -2,7 +2,8 @@ use Rattle.std.proofs.Common.{◌∙◌}
 use Rattle.terms.proofs.Gathering.{same_table}
 use Rattle.terms.proofs.table.NodeTable.copy.Goals as goal
 
-pub invariant-of-result : goal.invariant-of-result
-invariant-of-result c =
+pub invariant_of-result : goal.invariant_of-result
+invariant_of-result c =
     let s = c.args.self.now in
-    same_table _ _ _ _ s.ordered s.gathered s.narrow (c.in-ok-nodes.ensures.items ∙ c.as-slice.ensures.value) (c.in-ok-variables.ensures.items ∙ c.as-slice-2.ensures.value)
+    let all = same_table _ _ _ _ s.ordered s.gathered s.narrow (c.in_ok-nodes.ensures.items ∙ c.as_slice.ensures) (c.in_ok-variables.ensures.items ∙ c.as_slice-2.ensures.value) in
+    record { ordered = all.0; gathered = all.1; narrow = all.2 }

@@ -1,4 +1,4 @@
-use Rattle.std.proofs.Common.{◌≡◌, length, vec_items, ap, ◌∙◌, ap₂, arith}
+use Rattle.std.proofs.Common.{length, vec_items, ap, ◌∙◌, ap₂, arith}
 use lib.Bits.{bit_or}
 use Rattle.terms.proofs.Gathering.{length_sets, set_at}
 use Rattle.terms.proofs.table.NodeTable.join.Goals as goal

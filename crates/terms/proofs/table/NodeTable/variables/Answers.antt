@@ -1,4 +1,4 @@
-use Rattle.std.proofs.Common.{◌≡◌, ◌<◌, length, vec_items, ap, ◌∙◌, arith}
+use Rattle.std.proofs.Common.{◌<◌, length, vec_items, ap, ◌∙◌, arith}
 use Rattle.terms.proofs.Gathering.{length_sets, set_at, set_members}
 use Rattle.terms.proofs.table.NodeTable.variables.Goals as goal
 
