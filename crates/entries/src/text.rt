@@ -39,9 +39,15 @@ fn printable(bytes: &[u8]) -> bool
     ensures { Decides result (AllByRecursion (λ b. (33 ≤ b) × (b ≤ 126)) bytes.now) }
 {
     for b in bytes {
-        if *b < 33 || *b > 126 {
+        if !is_printable(b) {
             return false;
         }
     }
     true
+}
+
+fn is_printable(b: &u8) -> bool
+    ensures { Decides result ((33 ≤ b.now) × (b.now ≤ 126)) }
+{
+    !(*b < 33 || *b > 126)
 }

@@ -5,7 +5,7 @@ use Rattle.records.specs.Bytes.{Rec, encode, encode_all, CutOff}
 use Rattle.records.proofs.Scanning.{encode_push}
 use Rattle.terms.specs.declared.variables.VarSet.{VarSet}
 use Rattle.protocol.specs.declared.step.Property.{Property}
-use Rattle.protocol.specs.Lawful.{Content, Sound}
+use Rattle.protocol.specs.Lawful.{Content, Lawful, Sound}
 use Rattle.entries.specs.declared.fault.Rule.{Rule}
 use Rattle.entries.specs.declared.fault.Rule.TheVariants as r
 use Rattle.entries.specs.Format.{Entry, rec, entries, file}
@@ -85,3 +85,7 @@ lawful_exactly C = (λ l. ((l, refl), λ p w. one_reply (file C) p (taken C) w (
 pub read_refused : (B : Content) (bs : List ℕ) (f : SheetFault) → Drafted bs (Err f) → ReadInto B bs (Err f) B
 read_refused B bs (Refused q k) w = (w, refl)
 read_refused B bs NoMemory w = refl
+
+-- what is read is lawful
+pub lawful_taken : (bs : List ℕ) (C : Content) → Reads bs (taken C) → ∥ Lawful C ∥₁
+lawful_taken bs C r = ∣ r.0 ∣₁

@@ -52,6 +52,7 @@ impl Sheet {
     }
 
     // Reads a file into this sheet. Where the file is refused, the sheet stays as it was.
+    #[tactic(auto, using(crate::proofs::Loading::lawful_taken))]
     pub fn read(&mut self, heap: Global, bytes: &[u8]) -> Result<(), SheetFault>
         ensures reply { ReadInto (content_of self.old) bytes.now result (content_of self.new) }
         ensures one { OneReply }

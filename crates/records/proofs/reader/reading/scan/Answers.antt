@@ -1,4 +1,3 @@
-use Rattle.std.proofs.Common.{◌∙◌}
 use Rattle.std.proofs.lemmas.Result.{err_from_is_err_and}
 use Rattle.records.proofs.Fronts.{shorter}
 use Rattle.records.proofs.Scanning.{begins_more, begins_all, begins_fault, one_scan}
@@ -13,7 +12,7 @@ loop-preserved c = let x = rw c.in-Some.is at c.in_ok-next.ensures in begins_mor
 pub returns : goal.returns
 returns c =
     let x = rw c.in_default.is at c.in_ok-next.ensures in
-    record { cases = begins_all _ _ _ _ c.loop.invariant x.0 (c.count.ensures ∙ x.2); unique = one_scan }
+    record { cases = begins_all _ _ _ _ c.loop.invariant x.0 (cc x.2); unique = one_scan }
 
 pub returns-in_err-next : goal.returns-in_err-next
 returns-in_err-next c =

@@ -13,10 +13,5 @@ returns-in_err-tables c =
       lawful = lawful_exactly;
     }
 
-pub invariant_of-drop : goal.invariant_of-drop
-invariant_of-drop c = record {
-  lawful = ∣ c.in_ok-tables.ensures.0 ∣₁;
-}
-
 pub returns : goal.returns
 returns c = record { reply = c.in_ok-tables.ensures; one = one_reply; lawful = lawful_exactly }
