@@ -1,13 +1,13 @@
 // The number and the record of a refusal.
 ghost use Rattle.std.specs.Prelude.{◌≡◌};
-ghost use Rattle.entries.specs.Faults.{number as number_of_lem, fault_number, fault_record};
+ghost use Rattle.entries.specs.Faults.{number as number_of, fault_number, fault_record};
 
 use crate::fault::{Rule, SheetFault};
 
 impl Rule {
     // The number of the refusal where the rule is broken.
     pub fn number(self) -> u16
-        ensures { result ≡ number_of_lem self }
+        ensures { result ≡ number_of self }
     {
         match self {
             Rule::Whole => 1,

@@ -2,7 +2,7 @@
 ghost use Rattle.std.specs.Prelude.{◌≡◌, map, IfOk, string_bytes, OnOk};
 ghost use Rattle.sheet.specs.Sheets.{content_of};
 ghost use Rattle.listing.specs.Adds.{Adds};
-ghost use Rattle.listing.specs.Lines.{mark, shown, written, forms as formsOf, form_line, numbered};
+ghost use Rattle.listing.specs.Lines.{mark, shown, written, forms as all_forms, form_line, numbered};
 
 use crate::pieces::{push_at, push_number};
 use sheet::Sheet;
@@ -66,7 +66,7 @@ fn push_node(
 
 // The written form of each node, by number.
 pub(crate) fn forms_of(heap: Global, sheet: &Sheet) -> Result<Vec<String>, AllocError>
-    ensures { IfOk result (λ v. map string_bytes v.items ≡ formsOf (content_of sheet.now)) }
+    ensures { IfOk result (λ v. map string_bytes v.items ≡ all_forms (content_of sheet.now)) }
 {
     let mut table = Vec::new(heap);
     for node in sheet.nodes() {

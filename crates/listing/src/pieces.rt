@@ -2,7 +2,7 @@
 ghost use Rattle.std.specs.Prelude.{map, string_bytes, decimal, OnOk};
 ghost use Rattle.sheet.specs.View.{bytes_of};
 ghost use Rattle.listing.specs.Adds.{Adds};
-ghost use Rattle.listing.specs.Lines.{text as textAt};
+ghost use Rattle.listing.specs.Lines.{text as text_at};
 
 use sheet::Text;
 use std::alloc::AllocError;
@@ -19,7 +19,7 @@ pub(crate) fn push_text(out: &mut String, text: &Text) -> Result<(), AllocError>
 
 // The text with the number i, and nothing where there is none.
 pub(crate) fn push_at(out: &mut String, texts: &[Text], i: u16) -> Result<(), AllocError>
-    ensures { OnOk result (Adds (string_bytes out.old) (textAt (map bytes_of texts.now) i) (string_bytes out.new)) }
+    ensures { OnOk result (Adds (string_bytes out.old) (text_at (map bytes_of texts.now) i) (string_bytes out.new)) }
 {
     match texts.get(i as usize) {
         Some(t) => push_text(out, t),
