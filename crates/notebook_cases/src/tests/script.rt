@@ -94,8 +94,18 @@ pub(crate) fn follow<N: Notebook>(
     book: &mut N,
     steps: &[Step],
 ) -> Result<(), Fail> {
+    follow_as(rt, "notebook", book, steps)
+}
+
+// The same of a notebook of a kind, which a failure names.
+fn follow_as<N: Notebook>(
+    rt: &impl Abort,
+    kind: &str,
+    book: &mut N,
+    steps: &[Step],
+) -> Result<(), Fail> {
     for (i, step) in steps.iter().enumerate() {
-        assert!(rt; holds(book, *step), "step {i}");
+        assert!(rt; holds(book, *step), "{kind}, step {i}");
     }
     Ok(())
 }
@@ -103,7 +113,7 @@ pub(crate) fn follow<N: Notebook>(
 // Follows a script on a new notebook of each kind.
 pub(crate) fn on_each(rt: &impl Abort, heap: Global, steps: &[Step]) -> Result<(), Fail> {
     let mut asking = AskingNotebook::new(heap)?;
-    follow(rt, &mut asking, steps)?;
+    follow_as(rt, "asking", &mut asking, steps)?;
     let mut keeping = KeepingNotebook::new(heap)?;
-    follow(rt, &mut keeping, steps)
+    follow_as(rt, "keeping", &mut keeping, steps)
 }

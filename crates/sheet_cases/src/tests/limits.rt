@@ -145,7 +145,7 @@ fn expect_table(rt: &impl Abort, heap: Global, table: &Table, i: usize) -> Resul
     let mut file = SheetFile::new(heap);
     file.entries(table.before)?;
     fill(&mut file, table)?;
-    expect_cases(rt, heap, &file, table.past)?;
+    expect_cases_at(rt, heap, &file, table.past, i)?;
     file.entries(table.after)?;
     expect_whole_at(rt, heap, &file, i)
 }

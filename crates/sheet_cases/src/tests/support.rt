@@ -56,11 +56,22 @@ pub fn expect_cases(
     base: &SheetFile,
     cases: &[Case],
 ) -> Result<(), Fail> {
+    expect_cases_at(rt, heap, base, cases, 0)
+}
+
+// The same of one of several rows of cases, which a failure names by its number.
+pub fn expect_cases_at(
+    rt: &impl Abort,
+    heap: Global,
+    base: &SheetFile,
+    cases: &[Case],
+    row: usize,
+) -> Result<(), Fail> {
     for (i, case) in cases.iter().enumerate() {
         let mut file = base.clone()?;
         file.entries(case.0)?;
         let reply = reply_to(heap, file.as_bytes())?;
-        assert_eq!(rt; reply, refused(case.1, case.2), "case {i}");
+        assert_eq!(rt; reply, refused(case.1, case.2), "row {row}, case {i}");
     }
     Ok(())
 }
@@ -87,9 +98,7 @@ pub fn expect_each(
 
 // The file is taken, and the queries of the sheet then say what it says.
 pub fn expect_whole(rt: &impl Abort, heap: Global, file: &SheetFile) -> Result<(), Fail> {
-    let mut sheet = Sheet::new(heap)?;
-    expect_into(rt, heap, &mut sheet, file.as_bytes(), Reply::Taken)?;
-    expect_sheet(rt, heap, &sheet, file.as_bytes())
+    expect_whole_at(rt, heap, file, 0)
 }
 
 // The same of one of a row of files, which a failure names by its place in the row.
