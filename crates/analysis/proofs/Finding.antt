@@ -1,6 +1,6 @@
 -- Equality of terms as a test, and the first place of a term in a list that grows.
 use Rattle.std.proofs.Common.{◌≡◌, ℕ, zero, suc, ◌<◌, ◌≤◌, Bool, true, false, cond, List, [], ◌∷◌, ◌++◌, map, length, get_or, sym, refl, ap, ◌∙◌, subst, ap₂, ⊎_elim, arith}
-use Rattle.std.proofs.lemmas.List.{get_or-map, map_push, length-map}
+use Rattle.std.proofs.lemmas.List.{get_or-map, map_push}
 use Rattle.std.proofs.lemmas.Bool.{eqb-true, eq-eqb, and_parts, and_from, cases_lt, cond-true, false≢true}
 use Rattle.terms.specs.Terms.{Term, name, env, var, pair, seal}
 use Rattle.terms.specs.Nodes.{at, terms, term, says}
@@ -112,9 +112,6 @@ first_places ns i j h k =
 -- the place that code reads
 pub firsts_at : (ns : List Node) (i : ℕ) (d : NodeNo) → i < length ns → (get_or (firsts ns) i d).0 ≡ first ns (term ns i)
 firsts_at ns i d h = ap (λ (n : NodeNo). n.0) (get_or-map (λ t. record { 0 = first ns t }) (terms ns) i (name 0) d (omega (arith, length_terms ns)))
-
-pub length_firsts : (ns : List Node) → length (firsts ns) ≡ length ns
-length_firsts ns = length-map (terms ns) (λ t. record { 0 = first ns t }) ∙ length_terms ns
 
 pub first_push : (ns : List Node) (n : Node) (i : ℕ) → i < length ns → first (ns ++ (n ∷ [])) (term ns i) ≡ first ns (term ns i)
 first_push ns n i h =

@@ -1,7 +1,7 @@
 -- The steps of marking, from one mark to all that comes of some.
-use Rattle.std.proofs.Common.{◌≡◌, ℕ, ◌+◌, ◌-◌, ◌<◌, ◌≤◌, Bool, true, false, ◌||◌, List, [], ◌∷◌, ◌++◌, length, get_or, take, set, sym, refl, ap, ◌∙◌, subst, ⊎_elim, arith}
+use Rattle.std.proofs.Common.{◌≡◌, ℕ, ◌+◌, ◌-◌, ◌<◌, Bool, true, false, ◌||◌, List, [], ◌∷◌, ◌++◌, length, get_or, take, set, sym, refl, ap, ◌∙◌, subst, ⊎_elim, arith}
 use Rattle.std.proofs.lemmas.List.{length-set, length_push, get_or-set_same, get_or-set_other, get_or_append_left, get_or_push, take_more}
-use Rattle.std.proofs.lemmas.Bool.{and_from, and_parts, cases_eq, cases_lt, cond-true, cond-false, false≢true}
+use Rattle.std.proofs.lemmas.Bool.{and_from, and_parts, cases_eq, cases_lt, cond-true, false≢true}
 use Rattle.terms.specs.Terms.{Term, name, env, var, pair, seal}
 use Rattle.terms.specs.Nodes.{node, says, term, Ordered}
 use Rattle.terms.specs.declared.node.Node.{Node}
@@ -10,7 +10,7 @@ use Rattle.terms.specs.declared.number.NodeNo.{NodeNo}
 use Rattle.terms.proofs.Unfolding.{unfolds}
 use Rattle.analysis.specs.Places.{first}
 use Rattle.analysis.specs.Parts.{knows, opens, taken, Shut, Grows, Contains, Parts, free}
-use Rattle.analysis.specs.Marks.{Above, Marked, Done, Spread, Passing, Settled, Learned, Noting}
+use Rattle.analysis.specs.Marks.{Above, Marked, Spread, Passing, Settled, Learned, Noting}
 use Rattle.analysis.proofs.Settling.{free_set, set_grows}
 
 pub above_same : (ns : List Node) (a b : List Bool) → b ≡ a → Above ns a b
@@ -59,9 +59,6 @@ module _ (ns : List Node) (o : Ordered ns) (i : ℕ) (l : i < length ns) where
   pub spread_atom : (a b : List Bool) → b ≡ a → taken (knows ns a) (says (term ns) (node ns i)) ≡ true → Spread ns a i b false
   spread_atom a b e h = (e, λ t. ap (taken (knows ns a)) (unfolds ns o i l) ∙ h)
 
-  taken_here : (a other : List Bool) → knows ns a (term ns i) ≡ true → Shut ns other → Grows a other → taken (knows ns other) (says (term ns) (node ns i)) ≡ true
-  taken_here a other h s g = sym (ap (taken (knows ns other)) (unfolds ns o i l)) ∙ s i l (g (first ns (term ns i)) h)
-
   module _ (x y : NodeNo) (e : node ns i ≡ Pair x y) where
     pair_term : term ns i ≡ pair (term ns x.0) (term ns y.0)
     pair_term = unfolds ns o i l ∙ ap (says (term ns)) e
@@ -97,9 +94,6 @@ module _ (ns : List Node) (o : Ordered ns) (i : ℕ) (l : i < length ns) where
     seal_term : term ns i ≡ seal (term ns x.0) (term ns y.0)
     seal_term = unfolds ns o i l ∙ ap (says (term ns)) e
 
-    pub spread_shut : (a b : List Bool) → b ≡ a → opens (knows ns a) (term ns y.0) ≡ false → Spread ns a i b false
-    spread_shut a b p h = (p, λ t. ap (taken (knows ns a)) seal_term ∙ cond-false (opens (knows ns a) (term ns y.0)) (knows ns a (term ns x.0)) true h)
-
     -- more marks open no less
     opens_more : (f g : Term → Bool) (t : Term) → (f t ≡ true → g t ≡ true) → opens f t ≡ true → opens g t ≡ true
     opens_more f g (name n) m h = m h
@@ -127,36 +121,13 @@ or_first ns a i b p q e s = subst (λ (r : Bool). Spread ns a i b r) (ap (λ (x 
 pub or_second : (ns : List Node) (a : List Bool) (i : ℕ) (b : List Bool) (p q : Bool) → p ≡ false → Spread ns a i b (p || q) → Spread ns a i b q
 or_second ns a i b p q e s = subst (λ (r : Bool). Spread ns a i b r) (ap (λ (x : Bool). x || q) e) s
 
--- a pass: none yet, one place more, and the end
-pub passing_none : (ns : List Node) (a : List Bool) (i : ℕ) → length ns ≤ i → Passing ns a i a false
-passing_none ns a i h = (refl, λ k p q. absurd (omega arith))
-
 pub passing_more : (ns : List Node) (a b c : List Bool) (i : ℕ) (p : Bool) → 0 < i → Passing ns a i b p → Spread ns b (i - 1) c true → Passing ns a (i - 1) c true
 passing_more ns a b c i true z s m = (above_above ns a b c s.0 m.0, omega (arith, s.1, m.1))
 passing_more ns a b c i false z s m = (subst (λ (x : List Bool). Above ns x c) s.0 m.0, subst (λ (x : List Bool). free c < free x) s.0 m.1)
 
-pub passing_same : (ns : List Node) (a b c : List Bool) (i : ℕ) (p : Bool) → 0 < i → Passing ns a i b p → Spread ns b (i - 1) c false → Passing ns a (i - 1) c p
-passing_same ns a b c i true z s m = subst (λ (x : List Bool). Passing ns a (i - 1) x true) (sym m.0) s
-passing_same ns a b c i false z s m = (
-  m.0 ∙ s.0,
-  λ k p q. ⊎_elim (λ e. subst (λ (x : ℕ). Done ns a x) e (subst (λ (x : List Bool). Done ns x (i - 1)) s.0 m.1)) (λ n. s.1 k (omega arith) q) (cases_eq (i - 1) k),
-)
-
-pub passed_shut : (ns : List Node) (a b : List Bool) (p : Bool) → Passing ns a 0 b p → p ≡ false → Shut ns b
-passed_shut ns a b true s e = absurd (false≢true (sym e))
-passed_shut ns a b false s e = subst (Shut ns) (sym s.0) (λ i l. s.1 i (omega arith) l)
-
 pub passed_above : (ns : List Node) (a b : List Bool) (p : Bool) → Passing ns a 0 b p → Above ns a b
 passed_above ns a b true s = s.0
 passed_above ns a b false s = above_same ns a b s.0
-
-pub passed_free : (ns : List Node) (a b : List Bool) (p : Bool) → Passing ns a 0 b p → p ≡ true → free b < free a
-passed_free ns a b true s e = s.1
-passed_free ns a b false s e = absurd (false≢true e)
-
--- the noted places, one by one
-pub noting_none : (ns : List Node) (noted : List ℕ) (b : List Bool) → ((i : ℕ) → get_or b i false ≡ true → ⊥) → Noting ns (take 0 noted) b
-noting_none ns noted b h = (λ k l. absurd (omega arith), λ other c i e. absurd (h i e))
 
 contains_push : (ns : List Node) (noted : List ℕ) (p : ℕ) (b : List Bool) → Contains ns noted b → knows ns b (term ns p) ≡ true → Contains ns (noted ++ (p ∷ [])) b
 contains_push ns noted p b c h k l =

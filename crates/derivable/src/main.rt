@@ -2,9 +2,10 @@
 //     name N    env N    pair LEFT RIGHT    seal BODY KEY    note PLACE    ask
 #![tactic(auto)]
 
-use notebook::Notebook;
+use notebook::{NoteFault, Notebook, PutFault};
 use notebooks::KeepingNotebook;
-use std::io;
+use std::str::FromStr;
+use std::{fmt, io};
 use terms::{EnvName, LocalName, Node, NodeNo};
 
 #[derive(Clone, Copy)]
@@ -14,48 +15,69 @@ enum Command {
     Ask,
 }
 
-fn number(word: Option<&str>) -> Option<u16> {
-    match word {
-        Some(text) => text.parse::<u16>().ok(),
-        None => None,
+// a line that is no command
+#[derive(Clone, Copy, Debug)]
+struct NoCommand;
+
+impl FromStr for Command {
+    type Err = NoCommand;
+
+    fn from_str(line: &str) -> Result<Command, NoCommand> {
+        let mut words = line.split_whitespace();
+        let verb = words.next().ok_or(NoCommand)?;
+        let mut number = || words
+            .next()
+            .and_then(|word| word.parse::<u16>().ok())
+            .ok_or(NoCommand);
+        let command = match verb {
+            "name" => Command::Put(Node::Name(LocalName(number()?))),
+            "env" => Command::Put(Node::Env(EnvName(number()?))),
+            "pair" => Command::Put(Node::Pair {
+                left: NodeNo(number()?),
+                right: NodeNo(number()?),
+            }),
+            "seal" => Command::Put(Node::Seal {
+                body: NodeNo(number()?),
+                key: NodeNo(number()?),
+            }),
+            "note" => Command::Note(NodeNo(number()?)),
+            "ask" => Command::Ask,
+            _ => return Err(NoCommand),
+        };
+        Ok(command)
     }
 }
 
-fn place(word: Option<&str>) -> Option<NodeNo> {
-    Some(NodeNo(number(word)?))
+// why a call is refused, printed as its number
+#[derive(Clone, Copy)]
+enum Refusal {
+    Put(PutFault),
+    Note(NoteFault),
 }
 
-// The command of a line, or none where it is no command.
-fn command_of(line: &str) -> Option<Command> {
-    let mut words = line.split_whitespace();
-    let verb = words.next()?;
-    let a = words.next();
-    let b = words.next();
-    match verb {
-        "name" => Some(Command::Put(Node::Name(LocalName(number(a)?)))),
-        "env" => Some(Command::Put(Node::Env(EnvName(number(a)?)))),
-        "pair" => Some(Command::Put(Node::Pair {
-            left: place(a)?,
-            right: place(b)?,
-        })),
-        "seal" => Some(Command::Put(Node::Seal {
-            body: place(a)?,
-            key: place(b)?,
-        })),
-        "note" => Some(Command::Note(place(a)?)),
-        "ask" => Some(Command::Ask),
-        _ => None,
+impl fmt::Display for Refusal {
+    fn fmt<W: fmt::Write>(&self, f: &mut fmt::Formatter<W>) -> fmt::Result {
+        let number = match self {
+            Refusal::Put(fault) => fault.number(),
+            Refusal::Note(fault) => fault.number(),
+        };
+        write!(f, "refused {number}")
     }
 }
 
-// A node as its command is written: a word and one number or two.
-fn written(node: Node) -> (&'static str, u16, Option<u16>) {
-    match node {
-        Node::Name(n) => ("name", n.0, None),
-        Node::Env(n) => ("env", n.0, None),
-        Node::Var(n) => ("variable", n.0, None),
-        Node::Pair { left, right } => ("pair", left.0, Some(right.0)),
-        Node::Seal { body, key } => ("seal", body.0, Some(key.0)),
+// A node, printed as its command is written.
+#[derive(Clone, Copy)]
+struct Written(Node);
+
+impl fmt::Display for Written {
+    fn fmt<W: fmt::Write>(&self, f: &mut fmt::Formatter<W>) -> fmt::Result {
+        match self.0 {
+            Node::Name(n) => write!(f, "name {}", n.0),
+            Node::Env(n) => write!(f, "env {}", n.0),
+            Node::Var(n) => write!(f, "variable {}", n.0),
+            Node::Pair { left, right } => write!(f, "pair {} {}", left.0, right.0),
+            Node::Seal { body, key } => write!(f, "seal {} {}", body.0, key.0),
+        }
     }
 }
 
@@ -63,44 +85,32 @@ fn written(node: Node) -> (&'static str, u16, Option<u16>) {
 fn list<N: Notebook>(rt: &HostRuntime, book: &N) -> io::Result<()> {
     for i in 0..u16::MAX {
         let Some(node) = book.read(NodeNo(i)) else {
-            return Ok(());
+            break;
         };
         let answer = if book.derivable(NodeNo(i)) {
             "yes"
         } else {
             "no"
         };
-        match written(node) {
-            (word, a, None) => println!(rt; "{i} {word} {a}: {answer}")?,
-            (word, a, Some(b)) => println!(rt; "{i} {word} {a} {b}: {answer}")?,
-        }
+        println!(rt; "{i} {}: {answer}", Written(node))?;
     }
     Ok(())
 }
 
-// The number of the refusal, where a call is refused.
-fn refusal<N: Notebook>(book: &mut N, call: Command) -> Option<u16> {
-    match call {
-        Command::Put(node) => match book.put(node) {
-            Ok(_) => None,
-            Err(fault) => Some(fault.number()),
-        },
-        Command::Note(place) => match book.note(place) {
-            Ok(()) => None,
-            Err(fault) => Some(fault.number()),
-        },
-        Command::Ask => None,
+// Prints why a call is refused, where it is.
+fn report<T: Drop>(rt: &HostRuntime, outcome: Result<T, Refusal>) -> io::Result<()> {
+    match outcome {
+        Ok(_) => Ok(()),
+        Err(refusal) => println!(rt; "{refusal}"),
     }
 }
 
 fn follow<N: Notebook>(rt: &HostRuntime, book: &mut N, line: &str) -> io::Result<()> {
-    match command_of(line) {
-        Some(Command::Ask) => list(rt, book),
-        Some(call) => match refusal(book, call) {
-            Some(n) => println!(rt; "refused {n}"),
-            None => Ok(()),
-        },
-        None => println!(rt; "no command: {line}"),
+    match line.parse::<Command>() {
+        Ok(Command::Put(node)) => report(rt, book.put(node).map_err(Refusal::Put)),
+        Ok(Command::Note(place)) => report(rt, book.note(place).map_err(Refusal::Note)),
+        Ok(Command::Ask) => list(rt, book),
+        Err(NoCommand) => println!(rt; "no command: {line}"),
     }
 }
 

@@ -7,7 +7,7 @@ use crate::interface::Notebook;
 use std::alloc::{AllocError, Global};
 use terms::{Node, NodeNo};
 
-#[derive(Clone, Copy)]
+#[derive(Clone, Copy, Debug, PartialEq, Eq)]
 pub enum Call {
     Clear,
     Put(Node),
@@ -16,7 +16,7 @@ pub enum Call {
     Derivable(NodeNo),
 }
 
-#[derive(Clone, Copy)]
+#[derive(Clone, Copy, Debug, PartialEq, Eq)]
 pub enum Reply {
     Cleared,
     Put(Result<NodeNo, PutFault>),
@@ -25,6 +25,7 @@ pub enum Reply {
     Derivable(bool),
 }
 
+// A call is data, since the definitions speak of rows of calls; so there is a match, and no function in a row.
 fn answer<N: Notebook>(book: &mut N, one: Call) -> Reply
     ensures { Replies one (N.Notebook.nodes book.old) (N.Notebook.noted book.old) result (N.Notebook.nodes book.new) (N.Notebook.noted book.new) }
 {
@@ -41,6 +42,7 @@ fn answer<N: Notebook>(book: &mut N, one: Call) -> Reply
 }
 
 // Clears a notebook, makes the calls on it in turn, and answers its replies.
+#[tactic(auto, using(crate::proofs::Once::plays_none, crate::proofs::Once::plays_next))]
 pub fn replies<N: Notebook>(
     heap: Global,
     book: &mut N,
@@ -58,6 +60,7 @@ pub fn replies<N: Notebook>(
 }
 
 // Two notebooks of any kinds give the same replies to every row of calls, and hold the same then.
+#[tactic(auto, using(crate::proofs::Once::one_play))]
 pub fn agree<A: Notebook, B: Notebook>(
     heap: Global,
     a: &mut A,

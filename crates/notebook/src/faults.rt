@@ -2,40 +2,34 @@
 ghost use Rattle.std.specs.Prelude.{◌≡◌};
 ghost use Rattle.notebook.specs.Calls.{put_fault_number, note_fault_number};
 
-#[derive(Clone, Copy, PartialEq, Eq)]
+#[derive(Clone, Copy, Debug, PartialEq, Eq)]
 pub enum PutFault {
     // a variable, a name above its limit, or a reference to a place that is not held
-    Unlawful,
+    Unlawful = 60,
     // no more nodes
-    Full,
+    Full = 61,
 }
 
 impl PutFault {
     pub fn number(self) -> u16
         ensures { result ≡ put_fault_number self }
     {
-        match self {
-            PutFault::Unlawful => 60,
-            PutFault::Full => 61,
-        }
+        self as u16
     }
 }
 
-#[derive(Clone, Copy, PartialEq, Eq)]
+#[derive(Clone, Copy, Debug, PartialEq, Eq)]
 pub enum NoteFault {
     // a place that is not held
-    NotHeld,
+    NotHeld = 62,
     // no more notes
-    Full,
+    Full = 63,
 }
 
 impl NoteFault {
     pub fn number(self) -> u16
         ensures { result ≡ note_fault_number self }
     {
-        match self {
-            NoteFault::NotHeld => 62,
-            NoteFault::Full => 63,
-        }
+        self as u16
     }
 }

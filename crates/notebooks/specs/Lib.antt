@@ -1,2 +1,3 @@
-pub mod Tests
+pub mod Columns
+pub mod Lists
 pub mod Paging

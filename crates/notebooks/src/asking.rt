@@ -1,13 +1,9 @@
 // The notebook that works derivability out at each question.
-ghost use Rattle.std.specs.Prelude.{◌≡◌, ℕ, ◌<◌, false, length, Decides, slice_index_or};
-ghost use Rattle.terms.specs.Nodes.{term};
-ghost use Rattle.derivation.specs.Derive.{Derives};
-ghost use Rattle.derivation.specs.Noted.{noted_terms};
-ghost use Rattle.notebooks.specs.Tests.{numbers};
-ghost use Rattle.std.proofs.Common.{arith};
+ghost use Rattle.notebooks.specs.Lists.{nodes_of, noted_of};
 ghost use Rattle.notebooks.specs.Paging.{lists_lawful};
 
-use crate::pages::Pages;
+use crate::marks::Marks;
+use crate::page::Pages;
 use notebook::{MOST_NODES, NoteFault, Notebook, PutFault};
 use std::alloc::{AllocError, Global};
 use terms::{Node, NodeNo};
@@ -17,30 +13,12 @@ pub struct AskingNotebook {
     pages: Pages,
 }
 
-impl AskingNotebook {
-    // Marks the parts of the noted terms in a table without marks, and puts the term at a place together from them.
-    fn ask(&self, known: &mut [bool], place: NodeNo) -> bool
-        requires size { length known.old ≡ length self.now.pages.nodes.items }
-        requires blank { (i : ℕ) → slice_index_or known.old i false ≡ false }
-        requires held { place.0 < length self.now.pages.nodes.items }
-        ensures { Decides result (Derives (noted_terms self.now.pages.nodes.items (numbers self.now.pages.notes.items)) (term self.now.pages.nodes.items place.0)) }
-    {
-        self.pages.mark_noted(known);
-        self.pages.settle(known);
-        self.pages.composes(known, place)
-    }
-}
-
 impl Notebook for AskingNotebook {
-    ghost nodes = { λ b. b.pages.nodes.items };
+    ghost nodes = { λ b. nodes_of b.pages };
 
-    ghost noted = { λ b. numbers b.pages.notes.items };
+    ghost noted = { λ b. noted_of b.pages };
 
-    ghost lists = { λ b.
-        let p = b.pages in
-        let n = p.nodes.ok.0 in
-        let m = p.notes.ok.0 in
-        lists_lawful _ _ p.lawful (omega (arith, p.few_nodes)) (omega (arith, p.few_notes)) p.held };
+    ghost lists = { λ b. lists_lawful b.pages };
 
     fn new(heap: Global) -> Result<AskingNotebook, AllocError> {
         let pages = Pages::new(heap)?;
@@ -64,11 +42,17 @@ impl Notebook for AskingNotebook {
     }
 
     fn derivable(&self, place: NodeNo) -> bool {
-        let n = self.pages.nodes.len();
-        if place.0 as usize >= n {
+        if !self.pages.holds(place) {
             return false;
         }
+        // as many marks as there can be nodes: a question takes no memory
         let mut known = [false; MOST_NODES];
-        self.ask(&mut known[0..n], place)
+        let mut marks = Marks {
+            pages: &self.pages,
+            known: &mut known[..self.pages.len()],
+        };
+        marks.mark_noted();
+        marks.settle();
+        marks.seen().composes(place)
     }
 }

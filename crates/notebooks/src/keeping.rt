@@ -1,12 +1,12 @@
 // The notebook that keeps the parts of what was noted, so that a question only puts together.
-ghost use Rattle.std.specs.Prelude.{◌≡◌, ◌≤◌, length, vec_capacity};
-ghost use Rattle.analysis.specs.Parts.{Contains, Shut, Least};
+ghost use Rattle.std.specs.Prelude.{◌≤◌, vec_capacity};
+ghost use Rattle.analysis.specs.Parts.{Parts};
 ghost use Rattle.notebook.specs.Limits.{most_nodes};
-ghost use Rattle.notebooks.specs.Tests.{numbers};
-ghost use Rattle.std.proofs.Common.{arith};
+ghost use Rattle.notebooks.specs.Lists.{nodes_of, noted_of};
 ghost use Rattle.notebooks.specs.Paging.{lists_lawful};
 
-use crate::pages::Pages;
+use crate::marks::Known;
+use crate::page::Pages;
 use notebook::{MOST_NODES, NoteFault, Notebook, PutFault};
 use std::alloc::{AllocError, Global};
 use terms::{Node, NodeNo};
@@ -14,25 +14,18 @@ use terms::{Node, NodeNo};
 #[derive(Drop)]
 pub struct KeepingNotebook {
     pages: Pages,
-    // marks on the first places of the parts
+    // marks on the first places of the parts; not in the pages, since the other notebook has none
     known: Vec<bool>,
     ghost room: { most_nodes ≤ vec_capacity known },
-    ghost size: { length known.items ≡ length pages.nodes.items },
-    ghost contains: { Contains pages.nodes.items (numbers pages.notes.items) known.items },
-    ghost shut: { Shut pages.nodes.items known.items },
-    ghost least: { Least pages.nodes.items (numbers pages.notes.items) known.items },
+    ghost parts: { Parts (nodes_of pages) (noted_of pages) known.items },
 }
 
 impl Notebook for KeepingNotebook {
-    ghost nodes = { λ b. b.pages.nodes.items };
+    ghost nodes = { λ b. nodes_of b.pages };
 
-    ghost noted = { λ b. numbers b.pages.notes.items };
+    ghost noted = { λ b. noted_of b.pages };
 
-    ghost lists = { λ b.
-        let p = b.pages in
-        let n = p.nodes.ok.0 in
-        let m = p.notes.ok.0 in
-        lists_lawful _ _ p.lawful (omega (arith, p.few_nodes)) (omega (arith, p.few_notes)) p.held };
+    ghost lists = { λ b. lists_lawful b.pages };
 
     fn new(heap: Global) -> Result<KeepingNotebook, AllocError> {
         let pages = Pages::new(heap)?;
@@ -62,9 +55,13 @@ impl Notebook for KeepingNotebook {
     }
 
     fn derivable(&self, place: NodeNo) -> bool {
-        if place.0 as usize >= self.pages.nodes.len() {
+        if !self.pages.holds(place) {
             return false;
         }
-        self.pages.composes(self.known.as_slice(), place)
+        let known = Known {
+            pages: &self.pages,
+            known: &self.known,
+        };
+        known.composes(place)
     }
 }

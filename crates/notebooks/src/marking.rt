@@ -1,98 +1,98 @@
 // Marks on the first places of the parts of what was noted: halves of marked pairs, and bodies of marked seals under a
 // name that is marked or of the environment.
-ghost use Rattle.std.specs.Prelude.{◌≡◌, ℕ, ◌<◌, ◌≤◌, true, false, length, slice_index_or};
+ghost use Rattle.std.specs.Prelude.{◌≡◌, ℕ, ◌<◌, false, length, slice_index_or};
 ghost use Rattle.terms.specs.Nodes.{term};
 ghost use Rattle.analysis.specs.Places.{first as first-place};
 ghost use Rattle.analysis.specs.Parts.{knows as known-term, opens as opens-key};
 ghost use Rattle.analysis.specs.Marks.{Marked, Spread, Passing, Settled, Learned, Noting};
-ghost use Rattle.notebooks.specs.Tests.{numbers};
+ghost use Rattle.notebooks.specs.Lists.{nodes_of, noted_of, Same};
 
-use crate::pages::Pages;
+use crate::marks::{Known, Marks};
+use crate::page::Pages;
 use terms::{Node, NodeNo};
 
-impl Pages {
-    // The first place that holds the term at a place.
-    fn first_of(&self, place: NodeNo) -> usize
-        requires { place.0 < length self.now.nodes.items }
-        ensures value { result ≡ first-place self.now.nodes.items (term self.now.nodes.items place.0) }
-        ensures within { result < length self.now.nodes.items }
-    {
-        self.firsts[place.0 as usize].0 as usize
-    }
-
+impl Known<'_> {
     // Whether the term at a place is marked.
-    pub(crate) fn knows(&self, known: &[bool], place: NodeNo) -> bool
-        requires size { length known.now ≡ length self.now.nodes.items }
-        requires held { place.0 < length self.now.nodes.items }
-        ensures { result ≡ known-term self.now.nodes.items known.now (term self.now.nodes.items place.0) }
+    pub(crate) fn knows(&self, place: NodeNo) -> bool
+        requires { place.0 < length (nodes_of self.now.pages.now) }
+        ensures { let ns = nodes_of self.now.pages.now in result ≡ known-term ns self.now.known.now (term ns place.0) }
     {
-        known[self.first_of(place)]
-    }
-
-    // Marks the term at a place, and says whether that is new.
-    fn mark(&self, known: &mut [bool], place: NodeNo) -> bool
-        requires size { length known.old ≡ length self.now.nodes.items }
-        requires held { place.0 < length self.now.nodes.items }
-        ensures { Marked known.old (first-place self.now.nodes.items (term self.now.nodes.items place.0)) known.new result }
-    {
-        let at = self.first_of(place);
-        if known[at] {
-            return false;
-        }
-        known[at] = true;
-        true
+        self.known[self.pages.first_of(place).0 as usize]
     }
 
     // Whether a key is a name that is known.
-    fn opens(&self, known: &[bool], key: NodeNo) -> bool
-        requires size { length known.now ≡ length self.now.nodes.items }
-        requires held { key.0 < length self.now.nodes.items }
-        ensures { result ≡ opens-key (known-term self.now.nodes.items known.now) (term self.now.nodes.items key.0) }
+    fn opens(&self, key: NodeNo) -> bool
+        requires { key.0 < length (nodes_of self.now.pages.now) }
+        ensures { let ns = nodes_of self.now.pages.now in result ≡ opens-key (known-term ns self.now.known.now) (term ns key.0) }
     {
-        match self.nodes[key.0 as usize] {
-            Node::Name(_) => self.knows(known, key),
+        match self.pages.node(key) {
+            Node::Name(_) => self.knows(key),
             Node::Env(_) => true,
-            Node::Var(_) => false,
-            Node::Pair { .. } => false,
-            Node::Seal { .. } => false,
+            Node::Var(_) | Node::Pair { .. } | Node::Seal { .. } => false,
         }
+    }
+}
+
+impl Marks<'_> {
+    // The marks as they are now.
+    pub(crate) fn seen(&self) -> Known<'_>
+        ensures pages { result.pages ≡ self.now.pages }
+        ensures known { result.known.now ≡ self.now.known.now }
+    {
+        Known {
+            pages: self.pages,
+            known: self.known,
+        }
+    }
+
+    // Marks the term at a place, and says whether that is new.
+    fn mark(&mut self, place: NodeNo) -> bool
+        requires { place.0 < length (nodes_of self.old.pages.now) }
+        ensures same { Same self.old self.new }
+        ensures marked { let ns = nodes_of self.old.pages.now in Marked self.old.known.now (first-place ns (term ns place.0)) self.new.known.now result }
+    {
+        let at = self.pages.first_of(place).0 as usize;
+        if self.known[at] {
+            return false;
+        }
+        self.known[at] = true;
+        true
     }
 
     // Takes the term at a place apart, if it is marked, and says whether that marked anything.
-    fn spread(&self, known: &mut [bool], i: usize) -> bool
-        requires size { length known.old ≡ length self.now.nodes.items }
-        requires held { i < length self.now.nodes.items }
-        ensures { Spread self.now.nodes.items known.old i known.new result }
+    fn spread(&mut self, place: NodeNo) -> bool
+        requires { place.0 < length (nodes_of self.old.pages.now) }
+        ensures same { Same self.old self.new }
+        ensures spread { Spread (nodes_of self.old.pages.now) self.old.known.now place.0 self.new.known.now result }
     {
-        if !self.knows(known, NodeNo(i as u16)) {
+        if !self.seen().knows(place) {
             return false;
         }
-        match self.nodes[i] {
-            Node::Name(_) => false,
-            Node::Env(_) => false,
-            Node::Var(_) => false,
+        match self.pages.node(place) {
+            Node::Name(_) | Node::Env(_) | Node::Var(_) => false,
             Node::Pair { left, right } => {
-                let l = self.mark(known, left);
-                let r = self.mark(known, right);
+                let l = self.mark(left);
+                let r = self.mark(right);
                 l || r
             }
             Node::Seal { body, key } => {
-                if !self.opens(known, key) {
+                if !self.seen().opens(key) {
                     return false;
                 }
-                self.mark(known, body)
+                self.mark(body)
             }
         }
     }
 
-    // Takes each marked term apart once, the later places first since parts stand before their wholes.
-    fn pass(&self, known: &mut [bool]) -> bool
-        requires size { length known.old ≡ length self.now.nodes.items }
-        ensures { Passing self.now.nodes.items known.old 0 known.new result }
+    // Takes each marked term apart once, the later places first since parts stand before their wholes. A turn changes the
+    // marks that the next one reads, so a closure over the places would be no plainer than the loop.
+    fn pass(&mut self) -> bool
+        ensures same { Same self.old self.new }
+        ensures passing { Passing (nodes_of self.old.pages.now) self.old.known.now 0 self.new.known.now result }
     {
         let mut changed = false;
-        for i in (0..self.nodes.len()).rev() {
-            if self.spread(known, i) {
+        for i in (0..self.pages.len()).rev() {
+            if self.spread(NodeNo(i as u16)) {
                 changed = true;
             }
         }
@@ -100,31 +100,34 @@ impl Pages {
     }
 
     // Marks all that comes of the marks. Each pass but the last marks a place more, so this is quadratic at most.
-    pub(crate) fn settle(&self, known: &mut [bool])
-        requires size { length known.old ≡ length self.now.nodes.items }
-        ensures { Settled self.now.nodes.items known.old known.new }
+    pub(crate) fn settle(&mut self)
+        ensures same { Same self.old self.new }
+        ensures settled { Settled (nodes_of self.old.pages.now) self.old.known.now self.new.known.now }
     {
-        while self.pass(known) {}
-    }
-
-    // Marks the term at a place and all that comes of it.
-    pub(crate) fn learn(&self, known: &mut [bool], place: NodeNo)
-        requires size { length known.old ≡ length self.now.nodes.items }
-        requires held { place.0 < length self.now.nodes.items }
-        ensures { Learned self.now.nodes.items known.old (first-place self.now.nodes.items (term self.now.nodes.items place.0)) known.new }
-    {
-        self.mark(known, place);
-        self.settle(known);
+        while self.pass() {}
     }
 
     // Marks the noted terms, in a table without marks.
-    pub(crate) fn mark_noted(&self, known: &mut [bool])
-        requires size { length known.old ≡ length self.now.nodes.items }
-        requires blank { (i : ℕ) → slice_index_or known.old i false ≡ false }
-        ensures { Noting self.now.nodes.items (numbers self.now.notes.items) known.new }
+    pub(crate) fn mark_noted(&mut self)
+        requires { (i : ℕ) → slice_index_or self.old.known.now i false ≡ false }
+        ensures same { Same self.old self.new }
+        ensures noting { Noting (nodes_of self.old.pages.now) (noted_of self.old.pages.now) self.new.known.now }
     {
-        for place in self.notes.as_slice() {
-            self.mark(known, *place);
+        for place in self.pages.notes.as_slice() {
+            self.mark(*place);
         }
+    }
+}
+
+impl Pages {
+    // Marks the term at a place and all that comes of it.
+    pub(crate) fn learn(&self, known: &mut [bool], place: NodeNo)
+        requires size { length known.old ≡ length (nodes_of self.now) }
+        requires held { place.0 < length (nodes_of self.now) }
+        ensures { let ns = nodes_of self.now in Learned ns known.old (first-place ns (term ns place.0)) known.new }
+    {
+        let mut marks = Marks { pages: self, known };
+        marks.mark(place);
+        marks.settle();
     }
 }

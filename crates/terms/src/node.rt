@@ -5,7 +5,7 @@ ghost use Rattle.terms.specs.declared.node.NodeFault.TheVariants.{NoMemory};
 use crate::number::{EnvName, LocalName, NodeNo, Variable};
 use std::alloc::{AllocError, AllocFailed};
 
-#[derive(Clone, Copy)]
+#[derive(Clone, Copy, Debug, PartialEq, Eq)]
 pub enum Node {
     Name(LocalName),
     Env(EnvName),
@@ -15,7 +15,7 @@ pub enum Node {
 }
 
 // why a node is not taken
-#[derive(Clone, Copy, PartialEq, Eq)]
+#[derive(Clone, Copy, Debug, PartialEq, Eq)]
 pub enum NodeFault {
     // a reference that is not to a smaller number
     Reference,

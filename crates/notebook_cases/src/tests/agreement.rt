@@ -4,13 +4,6 @@ use notebooks::{AskingNotebook, KeepingNotebook};
 use std::test::Fail;
 use terms::{LocalName, Node, NodeNo};
 
-fn yes(reply: Reply) -> bool {
-    match reply {
-        Reply::Derivable(d) => d,
-        _ => false,
-    }
-}
-
 #[test]
 fn two_notebooks_agree(rt: HostRuntime) -> Result<(), Fail> {
     let calls = [
@@ -30,9 +23,9 @@ fn two_notebooks_agree(rt: HostRuntime) -> Result<(), Fail> {
     let (first, second) = agree(rt.alloc(), &mut asking, &mut keeping, &calls)?;
     assert!(rt; first.len() == 7);
     assert!(rt; second.len() == 7);
-    assert!(rt; !yes(first[4]));
-    assert!(rt; !yes(second[4]));
-    assert!(rt; yes(first[6]));
-    assert!(rt; yes(second[6]));
+    assert_eq!(rt; first[4], Reply::Derivable(false));
+    assert_eq!(rt; second[4], Reply::Derivable(false));
+    assert_eq!(rt; first[6], Reply::Derivable(true));
+    assert_eq!(rt; second[6], Reply::Derivable(true));
     Ok(())
 }

@@ -1,5 +1,4 @@
 // What the environment can put together and take apart.
-use crate::tests::script::Shape::*;
 use crate::tests::script::Step::*;
 use crate::tests::script::*;
 use std::test::Fail;
@@ -16,10 +15,10 @@ const TWICE: u16 = 3;
 #[test]
 fn a_seal_opens_once_its_key_is_given(rt: HostRuntime) -> Result<(), Fail> {
     let steps = [
-        Puts(Name(0), D),
-        Puts(Name(1), K),
-        Puts(Seal(D, K), D_K),
-        Puts(Pair(D_K, D_K), TWICE),
+        Puts(name(0), D),
+        Puts(name(1), K),
+        Puts(seal(D, K), D_K),
+        Puts(pair(D_K, D_K), TWICE),
         Notes(D_K),
         No(D),
         No(K),
@@ -35,12 +34,12 @@ fn a_seal_opens_once_its_key_is_given(rt: HostRuntime) -> Result<(), Fail> {
 #[test]
 fn halves_of_a_pair_and_their_pairs(rt: HostRuntime) -> Result<(), Fail> {
     let steps = [
-        Puts(Name(0), 0),
-        Puts(Name(1), 1),
-        Puts(Name(2), 2),
-        Puts(Pair(0, 1), 3),
-        Puts(Pair(1, 0), 4),
-        Puts(Pair(1, 2), 5),
+        Puts(name(0), 0),
+        Puts(name(1), 1),
+        Puts(name(2), 2),
+        Puts(pair(0, 1), 3),
+        Puts(pair(1, 0), 4),
+        Puts(pair(1, 2), 5),
         Notes(3),
         Yes(0),
         Yes(1),
@@ -54,11 +53,11 @@ fn halves_of_a_pair_and_their_pairs(rt: HostRuntime) -> Result<(), Fail> {
 #[test]
 fn nothing_local_is_derived_from_nothing(rt: HostRuntime) -> Result<(), Fail> {
     let steps = [
-        Puts(Name(0), 0),
-        Puts(Env(0), 1),
-        Puts(Seal(1, 0), 2),
-        Puts(Seal(0, 1), 3),
-        Puts(Pair(1, 1), 4),
+        Puts(name(0), 0),
+        Puts(env(0), 1),
+        Puts(seal(1, 0), 2),
+        Puts(seal(0, 1), 3),
+        Puts(pair(1, 1), 4),
         No(0),
         Yes(1),
         No(2),
@@ -73,11 +72,11 @@ fn nothing_local_is_derived_from_nothing(rt: HostRuntime) -> Result<(), Fail> {
 #[test]
 fn names_of_the_environment_are_known(rt: HostRuntime) -> Result<(), Fail> {
     let steps = [
-        Puts(Env(255), 0),
-        Puts(Name(0), 1),
-        Puts(Seal(1, 0), 2),
-        Puts(Env(7), 3),
-        Puts(Seal(1, 3), 4),
+        Puts(env(255), 0),
+        Puts(name(0), 1),
+        Puts(seal(1, 0), 2),
+        Puts(env(7), 3),
+        Puts(seal(1, 3), 4),
         Notes(2),
         Yes(0),
         Yes(1),

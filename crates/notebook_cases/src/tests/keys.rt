@@ -1,5 +1,4 @@
 // Keys: found one through another, in any order; and keys that are no names.
-use crate::tests::script::Shape::*;
 use crate::tests::script::Step::*;
 use crate::tests::script::*;
 use std::test::Fail;
@@ -27,11 +26,11 @@ fn a_key_inside_another_seal_in_every_order(rt: HostRuntime) -> Result<(), Fail>
     ];
     for [x, y, z] in orders {
         let steps = [
-            Puts(Name(0), A),
-            Puts(Name(1), J),
-            Puts(Name(2), K),
-            Puts(Seal(A, J), A_J),
-            Puts(Seal(J, K), J_K),
+            Puts(name(0), A),
+            Puts(name(1), J),
+            Puts(name(2), K),
+            Puts(seal(A, J), A_J),
+            Puts(seal(J, K), J_K),
             Notes(x),
             Notes(y),
             No(A),
@@ -49,12 +48,12 @@ fn a_key_inside_another_seal_in_every_order(rt: HostRuntime) -> Result<(), Fail>
 #[test]
 fn a_key_that_is_a_pair(rt: HostRuntime) -> Result<(), Fail> {
     let steps = [
-        Puts(Name(0), 0),
-        Puts(Name(1), 1),
-        Puts(Pair(1, 1), 2),
-        Puts(Seal(0, 2), 3),
-        Puts(Seal(1, 2), 4),
-        Puts(Pair(3, 1), 5),
+        Puts(name(0), 0),
+        Puts(name(1), 1),
+        Puts(pair(1, 1), 2),
+        Puts(seal(0, 2), 3),
+        Puts(seal(1, 2), 4),
+        Puts(pair(3, 1), 5),
         Notes(3),
         Notes(1),
         Yes(2),
@@ -69,10 +68,10 @@ fn a_key_that_is_a_pair(rt: HostRuntime) -> Result<(), Fail> {
 #[test]
 fn a_key_that_is_a_seal(rt: HostRuntime) -> Result<(), Fail> {
     let steps = [
-        Puts(Name(0), 0),
-        Puts(Name(1), 1),
-        Puts(Seal(1, 1), 2),
-        Puts(Seal(0, 2), 3),
+        Puts(name(0), 0),
+        Puts(name(1), 1),
+        Puts(seal(1, 1), 2),
+        Puts(seal(0, 2), 3),
         Notes(3),
         Notes(2),
         Notes(1),

@@ -1,55 +1,58 @@
 // Each limit at its edge, and that the smaller number is answered where two apply.
-use crate::tests::script::Shape::*;
 use crate::tests::script::Step::*;
 use crate::tests::script::*;
 use notebook::Notebook;
 use notebooks::{AskingNotebook, KeepingNotebook};
+use std::alloc::Global;
 use std::process::Abort;
 use std::test::Fail;
 
 #[test]
 fn lawful_nodes_at_the_edge(rt: HostRuntime) -> Result<(), Fail> {
     let steps = [
-        PutRefused(Pair(0, 0), 60),
-        PutRefused(Var(0), 60),
-        PutRefused(Name(64), 60),
-        PutRefused(Env(256), 60),
-        Puts(Name(63), 0),
-        Puts(Env(255), 1),
-        PutRefused(Pair(2, 0), 60),
-        PutRefused(Pair(0, 2), 60),
-        PutRefused(Seal(2, 0), 60),
-        PutRefused(Seal(0, 2), 60),
-        Puts(Pair(1, 1), 2),
-        Puts(Seal(2, 2), 3),
-        PutRefused(Pair(0, 65535), 60),
+        PutRefused(pair(0, 0), 60),
+        PutRefused(var(0), 60),
+        PutRefused(name(64), 60),
+        PutRefused(env(256), 60),
+        Puts(name(63), 0),
+        Puts(env(255), 1),
+        PutRefused(pair(2, 0), 60),
+        PutRefused(pair(0, 2), 60),
+        PutRefused(seal(2, 0), 60),
+        PutRefused(seal(0, 2), 60),
+        Puts(pair(1, 1), 2),
+        Puts(seal(2, 2), 3),
+        PutRefused(pair(0, 65535), 60),
     ];
     on_each(&rt, rt.alloc(), &steps)
 }
 
-fn full<N: Notebook>(rt: &impl Abort, book: &mut N) -> Result<(), Fail> {
+fn full<N: Notebook + Drop>(rt: &impl Abort, heap: Global) -> Result<(), Fail> {
+    let mut book = N::new(heap)?;
     for i in 0..768u16 {
-        follow(rt, book, &[Puts(Name(i % 64), i)])?;
+        follow(rt, "notebook", &mut book, &[Puts(name(i % 64), i)])?;
     }
     follow(
         rt,
-        book,
+        "notebook",
+        &mut book,
         &[
-            PutRefused(Name(0), 61),
-            PutRefused(Pair(767, 767), 61),
-            PutRefused(Name(64), 60),
-            PutRefused(Pair(768, 0), 60),
-            Holds(767, Name(63)),
+            PutRefused(name(0), 61),
+            PutRefused(pair(767, 767), 61),
+            PutRefused(name(64), 60),
+            PutRefused(pair(768, 0), 60),
+            Holds(767, name(63)),
             Absent(768),
             NoteRefused(768, 62),
         ],
     )?;
     for _ in 0..128u16 {
-        follow(rt, book, &[No(0), Notes(767)])?;
+        follow(rt, "notebook", &mut book, &[No(0), Notes(767)])?;
     }
     follow(
         rt,
-        book,
+        "notebook",
+        &mut book,
         &[
             NoteRefused(0, 63),
             NoteRefused(768, 62),
@@ -62,8 +65,6 @@ fn full<N: Notebook>(rt: &impl Abort, book: &mut N) -> Result<(), Fail> {
 
 #[test]
 fn all_places_and_all_notes(rt: HostRuntime) -> Result<(), Fail> {
-    let mut asking = AskingNotebook::new(rt.alloc())?;
-    full(&rt, &mut asking)?;
-    let mut keeping = KeepingNotebook::new(rt.alloc())?;
-    full(&rt, &mut keeping)
+    full::<AskingNotebook>(&rt, rt.alloc())?;
+    full::<KeepingNotebook>(&rt, rt.alloc())
 }

@@ -1,22 +1,22 @@
 // Equal trees at different places are one term, and no tree is walked.
-use crate::tests::script::Shape::*;
 use crate::tests::script::Step::*;
 use crate::tests::script::*;
 use notebook::Notebook;
 use notebooks::{AskingNotebook, KeepingNotebook};
+use std::alloc::Global;
 use std::process::Abort;
 use std::test::Fail;
 
 #[test]
 fn one_term_at_two_places(rt: HostRuntime) -> Result<(), Fail> {
     let steps = [
-        Puts(Name(0), 0),
-        Puts(Name(1), 1),
-        Puts(Seal(0, 1), 2),
-        Puts(Name(1), 3),
-        Puts(Name(0), 4),
-        Puts(Seal(4, 3), 5),
-        Puts(Seal(3, 4), 6),
+        Puts(name(0), 0),
+        Puts(name(1), 1),
+        Puts(seal(0, 1), 2),
+        Puts(name(1), 3),
+        Puts(name(0), 4),
+        Puts(seal(4, 3), 5),
+        Puts(seal(3, 4), 6),
         Notes(5),
         Yes(2),
         No(6),
@@ -27,8 +27,8 @@ fn one_term_at_two_places(rt: HostRuntime) -> Result<(), Fail> {
         Yes(4),
         Yes(6),
         // and a place that comes later
-        Puts(Pair(4, 3), 7),
-        Puts(Pair(0, 1), 8),
+        Puts(pair(4, 3), 7),
+        Puts(pair(0, 1), 8),
         Yes(7),
         Yes(8),
     ];
@@ -38,10 +38,10 @@ fn one_term_at_two_places(rt: HostRuntime) -> Result<(), Fail> {
 #[test]
 fn a_local_name_is_no_name_of_the_environment(rt: HostRuntime) -> Result<(), Fail> {
     let steps = [
-        Puts(Name(5), 0),
-        Puts(Env(5), 1),
-        Puts(Seal(0, 0), 2),
-        Puts(Seal(1, 0), 3),
+        Puts(name(5), 0),
+        Puts(env(5), 1),
+        Puts(seal(0, 0), 2),
+        Puts(seal(1, 0), 3),
         Notes(2),
         No(0),
         No(3),
@@ -51,22 +51,27 @@ fn a_local_name_is_no_name_of_the_environment(rt: HostRuntime) -> Result<(), Fai
 }
 
 // Each place is the pair of the one before with itself: the last term has 2^767 leaves.
-fn tower<N: Notebook>(rt: &impl Abort, book: &mut N) -> Result<(), Fail> {
-    follow(rt, book, &[Puts(Name(0), 0), Puts(Pair(0, 0), 1)])?;
+fn tower<N: Notebook + Drop>(rt: &impl Abort, heap: Global) -> Result<(), Fail> {
+    let mut book = N::new(heap)?;
+    follow(
+        rt,
+        "notebook",
+        &mut book,
+        &[Puts(name(0), 0), Puts(pair(0, 0), 1)],
+    )?;
     for i in 1..767u16 {
-        follow(rt, book, &[Puts(Pair(i, i), i + 1)])?;
+        follow(rt, "notebook", &mut book, &[Puts(pair(i, i), i + 1)])?;
     }
     follow(
         rt,
-        book,
+        "notebook",
+        &mut book,
         &[No(767), Notes(1), Yes(0), Yes(767), Notes(767), Yes(400)],
     )
 }
 
 #[test]
 fn a_tower_of_pairs(rt: HostRuntime) -> Result<(), Fail> {
-    let mut asking = AskingNotebook::new(rt.alloc())?;
-    tower(&rt, &mut asking)?;
-    let mut keeping = KeepingNotebook::new(rt.alloc())?;
-    tower(&rt, &mut keeping)
+    tower::<AskingNotebook>(&rt, rt.alloc())?;
+    tower::<KeepingNotebook>(&rt, rt.alloc())
 }

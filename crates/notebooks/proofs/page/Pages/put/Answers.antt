@@ -1,0 +1,11 @@
+use Rattle.notebooks.proofs.Paging.{push_lawful, push_held, push_firsts}
+use Rattle.notebooks.proofs.page.Pages.put.Goals as goal
+
+pub invariant_of-self-clause-lawful : goal.invariant_of-self-clause-lawful
+invariant_of-self-clause-lawful c = push_lawful _ _ _ c.args.self.now.lawful (c.is_lawful.ensures.0 c.if-not-is_lawful.false) c.push_reserved.ensures.items
+
+pub invariant_of-self-clause-places : goal.invariant_of-self-clause-places
+invariant_of-self-clause-places c = push_firsts _ _ _ c.args.self.now.places c.first_place-first.ensures c.push_reserved.ensures.items
+
+pub invariant_of-self-clause-held : goal.invariant_of-self-clause-held
+invariant_of-self-clause-held c = push_held _ _ _ _ c.args.self.now.held c.push_reserved.ensures.items
