@@ -1,5 +1,4 @@
 pub mod Faults
-pub mod Printable
 pub mod Format
 pub mod Rules
 pub mod Reading

@@ -1,11 +1,18 @@
 // Entries of a sheet file: what a record says, before anything is known of the sheet.
 
-// the three numbers of a node, a step or an action
-#[derive(Clone, Copy)]
+// the three numbers of a node, a step or an action; whether the kind is one is asked later, after other rules
+#[derive(Clone, Copy, Debug, PartialEq, Eq)]
 pub struct Fields {
     pub kind: u16,
     pub a: u16,
     pub b: u16,
+}
+
+// the numbers of a property
+#[derive(Clone, Copy, Debug, PartialEq, Eq)]
+pub struct PropertyFields {
+    pub earlier: Fields,
+    pub later: Fields,
 }
 
 #[derive(Clone, Copy)]
@@ -16,6 +23,9 @@ pub enum Entry<'a> {
     Node(Fields),
     Strand,
     Step(Fields),
-    // the earlier action and the later one
-    Property(Fields, Fields),
+    Property(PropertyFields),
 }
+
+// There is no entry, node, step, action or property with these numbers.
+#[derive(Clone, Copy, Debug, PartialEq, Eq)]
+pub struct Unknown;

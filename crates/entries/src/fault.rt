@@ -6,26 +6,26 @@ ghost use Rattle.entries.specs.declared.fault.SheetFault.TheVariants.{NoMemory};
 use records::FileFault;
 use std::alloc::AllocFailed;
 
-// what a file has to keep, in the order of the refusals' numbers
-#[derive(Clone, Copy)]
+// what a file has to keep, with the number of the refusal where it does not
+#[derive(Clone, Copy, Debug, PartialEq, Eq)]
 pub enum Rule {
     // a whole record stands in the bytes that are left
-    Whole,
+    Whole = 1,
     // its kind is known and in order, and its length fits the kind
-    Kind,
+    Kind = 2,
     // its table has room
-    Limit,
-    Text,
-    Node,
-    Step,
+    Limit = 3,
+    Text = 4,
+    Node = 5,
+    Step = 6,
     // a variable is bound once, and before it is used
-    Variable,
-    Property,
+    Variable = 7,
+    Property = 8,
     // a property has come when the file ends
-    Ended,
+    Ended = 9,
 }
 
-#[derive(Clone, Copy)]
+#[derive(Clone, Copy, Debug, PartialEq, Eq)]
 pub enum SheetFault {
     // the rule that is broken, and the number of the record
     Refused { rule: Rule, record: usize },

@@ -7,7 +7,6 @@ mod fault;
 mod refusal;
 mod text;
 
-pub use decode::{entry_of, node_of, property_of, step_of};
-pub use entry::{Entry, Fields};
+pub use entry::{Entry, Fields, PropertyFields, Unknown};
 pub use fault::{Rule, SheetFault};
 pub use text::Text;

@@ -9,22 +9,13 @@ impl Rule {
     pub fn number(self) -> u16
         ensures { result ≡ number_of self }
     {
-        match self {
-            Rule::Whole => 1,
-            Rule::Kind => 2,
-            Rule::Limit => 3,
-            Rule::Text => 4,
-            Rule::Node => 5,
-            Rule::Step => 6,
-            Rule::Variable => 7,
-            Rule::Property => 8,
-            Rule::Ended => 9,
-        }
+        self as u16
     }
 }
 
 impl SheetFault {
-    // The number of the refusal; want of memory has none.
+    // The number of the refusal; want of memory has none. A call for the number and one for the record, since a caller may
+    // want either alone; who wants both matches on the fault.
     pub fn number(self) -> Option<u16>
         ensures { result ≡ fault_number self }
     {

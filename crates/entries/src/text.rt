@@ -1,53 +1,56 @@
 // The text of a label, a name or a variable: 1 to 16 bytes from 33 to 126.
-ghost use Rattle.std.specs.Prelude.{◌≡◌, ℕ, ◌+◌, ◌<◌, ◌≤◌, true, length, take, Decides, MatchOption};
-ghost use Rattle.std.specs.List.{AllByRecursion};
+ghost use Rattle.std.specs.Prelude.{◌≡◌, ◌≤◌, true, length, Decides, MatchOption, Some};
+ghost use Rattle.std.specs.Char.{is_ascii_graphic};
+ghost use Rattle.std.specs.List.{AllByRecursion, list_all};
 ghost use Rattle.protocol.specs.Lawful.{Text as IsText};
-ghost use Rattle.entries.specs.Printable.{printable?};
+
+use arrayvec::ArrayString;
+use std::{fmt, str};
 
 #[derive(Clone, Copy)]
 pub struct Text {
-    bytes: [u8; 16],
-    len: usize,
-    ghost within: { len ≤ 16 },
-    ghost long: { length bytes ≡ 16 },
-    ghost plain: { printable? (take len bytes) ≡ true },
+    text: ArrayString<16>,
+    ghost short: { length text.bytes ≤ 16 },
+    ghost plain: { list_all is_ascii_graphic text.bytes ≡ true },
 }
 
 impl Text {
     // The text of these bytes, or none where they are no text.
     pub fn new(bytes: &[u8]) -> Option<Text>
-        ensures { MatchOption result (¬ IsText bytes.now) (λ t. IsText bytes.now × (take t.len t.bytes ≡ bytes.now)) }
+        ensures { MatchOption result (¬ IsText bytes.now) (λ t. IsText bytes.now × (t.text.bytes ≡ bytes.now)) }
     {
-        let len = bytes.len();
-        if len < 1 || len > 16 || !printable(bytes) {
+        if bytes.is_empty() || !printable(bytes) {
             return None;
         }
-        let mut held = [0; 16];
-        held[0..len].copy_from_slice(bytes);
-        Some(Text { bytes: held, len })
+        let text = str::from_utf8(bytes).ok()?;
+        let text = ArrayString::from(text).ok()?;
+        Some(Text { text })
     }
 
     pub fn as_bytes(&self) -> &[u8]
-        ensures value { result.now ≡ take self.now.len self.now.bytes }
+        ensures value { result.now ≡ self.now.text.bytes }
         ensures printable { AllByRecursion (λ b. (33 ≤ b) × (b ≤ 126)) result.now }
     {
-        &self.bytes[0..self.len]
+        self.text.as_bytes()
+    }
+
+    pub fn as_str(&self) -> &str
+        ensures { result.now ≡ self.now.text.bytes }
+    {
+        self.text.as_str()
+    }
+}
+
+impl fmt::Display for Text {
+    ghost output = { λ t. Some t.text.bytes };
+
+    fn fmt<W: fmt::Write>(&self, f: &mut fmt::Formatter<W>) -> fmt::Result {
+        f.pad(self.as_str())
     }
 }
 
 fn printable(bytes: &[u8]) -> bool
-    ensures { Decides result (AllByRecursion (λ b. (33 ≤ b) × (b ≤ 126)) bytes.now) }
+    ensures { result ≡ list_all is_ascii_graphic bytes.now }
 {
-    for b in bytes {
-        if !is_printable(b) {
-            return false;
-        }
-    }
-    true
-}
-
-fn is_printable(b: &u8) -> bool
-    ensures { Decides result ((33 ≤ b.now) × (b.now ≤ 126)) }
-{
-    !(*b < 33 || *b > 126)
+    bytes.iter().all(|b| b.is_ascii_graphic())
 }

@@ -6,18 +6,24 @@ ghost use Rattle.std.specs.Prelude.{ℕ, ◌≤◌, length, IfOk};
 use std::io;
 use std::io::Read;
 
-// Reads standard input up to its end or the buffer's, and says how many bytes came.
+// The longest file that the programs look at.
+pub const LONGEST: usize = 8192;
+
+// Reads standard input up to its end or the buffer's, and says how many bytes came. The buffer is the caller's, of fixed
+// memory, so the count stands beside it. The library's own loops either read
+// to the end of the input, into a vector, or take an end before the buffer's for a fault.
 pub fn read_input(rt: &HostRuntime, buf: &mut [u8]) -> io::Result<usize>
     ensures { IfOk result (λ n. n ≤ length buf.old) }
 {
     let mut input = rt.stdin();
-    let mut n = 0;
-    while n < buf.len() {
-        let got = input.read(&mut buf[n..])?;
+    let room = buf.len();
+    let mut rest = buf;
+    while !rest.is_empty() {
+        let got = input.read(rest)?;
         if got == 0 {
             break;
         }
-        n += got;
+        rest = &mut rest[got..];
     }
-    Ok(n)
+    Ok(room - rest.len())
 }

@@ -1,4 +1,2 @@
-pub mod Pushing
 pub mod Numbering
 pub mod Forming
-pub mod Joining

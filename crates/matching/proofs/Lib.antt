@@ -1,3 +1,2 @@
 pub mod Lookups
-pub mod Lending
 pub mod Trying

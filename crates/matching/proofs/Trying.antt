@@ -1,6 +1,6 @@
 -- What a match does to the binding list, and pairs matched one after another.
 use Rattle.std.proofs.Common.{◌≡◌, ℕ, ◌+◌, ◌<◌, ◌≤◌, Bool, true, false, eqb, List, [], ◌∷◌, ◌++◌, length, get_or, take, is_err, Ok, Err, Result, sym, ap, ◌∙◌, subst, ⊎_elim, arith, length-take, take_all, take-take}
-use Rattle.std.proofs.lemmas.Bool.{eqb-true, eq-eqb}
+use Rattle.std.proofs.lemmas.Bool.{eqb-true, eq-eqb, true≢false}
 use Rattle.std.proofs.lemmas.List.{take_more}
 use Rattle.terms.specs.Terms.{Term, var}
 use Rattle.terms.specs.declared.node.Node.{Node}
@@ -13,7 +13,6 @@ use Rattle.matching.specs.declared.fault.MatchFault.{MatchFault}
 use Rattle.matching.specs.declared.fault.MatchFault.TheVariants.{NoSuchNode}
 use Rattle.matching.specs.Matchings.{Matches, Agrees, AllMatch, Already}
 use Rattle.unification.proofs.Extending.{exactly_one, no_longer}
-use Rattle.matching.proofs.Lookups.{true_not_false}
 use Rattle.unification.proofs.Moves.{each_snoc, each_front, each_last}
 
 -- a beginning of a list is no longer than it
@@ -38,9 +37,6 @@ pub record Joint (ns : List Node) (B : List Binding) (ps : List Ask) (B' : List 
   pub room : Room ns ps
   pub down : (θ : ℕ → Term) → Instance ns B' θ → Instance ns B θ × Agrees ns θ ps
   pub along : (θ : ℕ → Term) → Instance ns B θ → Agrees ns θ ps → Instance ns B' θ
-
-pub joint_none : (ns : List Node) (B : List Binding) (ps : List Ask) → Joint ns B (take 0 ps) B
-joint_none ns B ps = record { room = tt; down = λ θ i. (i, tt); along = λ θ i a. i }
 
 abbrev InRange : List Node → Ask → Type 0
 InRange ns w = (w.left.0 < length ns) × (w.right.0 < length ns)
@@ -84,7 +80,7 @@ joint_ends ns B ps k B₁ all g j =
 
 -- a refusal is the one that there is
 pub when_refused : (ns : List Node) (B : List Binding) (ps : List Ask) (r : Result Bool MatchFault) → is_err r ≡ true → AllMatch ns B ps (Err NoSuchNode) → AllMatch ns B ps r
-when_refused ns B ps (Ok b) e h = absurd (true_not_false (sym e))
+when_refused ns B ps (Ok b) e h = absurd (true≢false (sym e))
 when_refused ns B ps (Err NoSuchNode) e h = h
 
 -- what a read past the end of a row of pairs gives
@@ -100,7 +96,7 @@ module _ (ns : List Node) (B B₂ : List Binding) (a b : ℕ) (g : ∥ Good ns B
   pub already_apart : Matches ns B a b (Ok false) B₂ → Already ns B a b (Ok false)
   already_apart m =
       let e = exactly_one ns B g var in
-      (m.0, m.1, (λ t. absurd (true_not_false (sym t)), λ p. absurd (m.2 e.0 e.1.0.0 (p e.0 e.1.0.0))))
+      (m.0, m.1, (λ t. absurd (true≢false (sym t)), λ p. absurd (m.2 e.0 e.1.0.0 (p e.0 e.1.0.0))))
 
   -- they can be made equal: whether they were is whether nothing was added
   pub already_counted : ∥ Good ns B₂ ∥₁ → Matches ns B a b (Ok true) B₂ → Already ns B a b (Ok (eqb (length B₂) (length B)))
@@ -118,7 +114,3 @@ module _ (ns : List Node) (B B₂ : List Binding) (a b : ℕ) (g : ∥ Good ns B
               eq-eqb (length B₂) (length B) (omega (arith, s, shorter B B₂ front)),
         ),
       )
-
-  pub already_refused : (fault : MatchFault) (r : Result Bool MatchFault) → is_err r ≡ true → Matches ns B a b (Err fault) B₂ → Already ns B a b r
-  already_refused NoSuchNode (Ok v) e m = absurd (true_not_false (sym e))
-  already_refused NoSuchNode (Err NoSuchNode) e m = m.0

@@ -15,11 +15,11 @@ use Rattle.matching.specs.declared.matching.Matching.{Matching}
 
 -- the nodes that it matches
 abbrev pub nodes_of : Matching → List Node
-nodes_of m = vec_items m.nodes.nodes
+nodes_of m = vec_items m.solver.nodes.nodes
 
 -- its bindings, oldest first
 abbrev pub bound : Matching → List Binding
-bound m = vec_items m.bindings.list
+bound m = vec_items m.solver.bindings.list
 
 -- a match of a and b: the answer, and the bindings B' after it where they were B before
 abbrev pub Matches : List Node → List Binding → ℕ → ℕ → Result Bool MatchFault → List Binding → Type 0

@@ -1,13 +1,14 @@
 // The bindings of a matching, oldest first, with an index from variables to them.
 ghost use Rattle.std.specs.Prelude.{◌≡◌, ℕ, ◌<◌, ◌≤◌, [], ◌++◌, length, take, IfOk, vec_len, vec_capacity};
-ghost use Rattle.terms.specs.Nodes.{Ordered};
+ghost use Rattle.std.proofs.Props.{props};
+ghost use Rattle.terms.specs.declared.node.Node.TheVariants.{Var};
 ghost use Rattle.unification.specs.Bindings.{Good, Unbound, Within, Walked};
-ghost use Rattle.unification.specs.Index.{Indexed, Named, Counted};
+ghost use Rattle.unification.specs.Index.{Indexed, Placed, Counted};
 ghost use Rattle.unification.specs.Reaching.{Widened, Start, Answered};
 ghost use Rattle.unification.specs.Steps.{with_binding, Assigned};
 
 use std::alloc::{AllocError, Global};
-use terms::{Node, NodeNo, NodeTable, VarSet, Variable};
+use terms::{Node, NodeNo, NodeTable, VarSet};
 use unification::Binding;
 
 const VARIABLES: usize = 64;
@@ -15,9 +16,9 @@ const VARIABLES: usize = 64;
 #[derive(Drop)]
 pub struct Bindings {
     list: Vec<Binding>,
-    // for each variable the place of its binding and one, or 0
-    index: Vec<u16>,
-    ghost indexed: { ∥ Indexed list.items index.items ∥₁ },
+    // for each variable the place of its binding, if it has one; a map would take memory at each binding
+    index: Vec<Option<usize>>,
+    ghost indexed: { Indexed list.items index.items } by { Prim.hlevel props },
     ghost counted: { Counted list.items index.items },
     ghost wide: { vec_len index ≡ 64 },
     ghost roomy: { 64 ≤ vec_capacity list },
@@ -28,7 +29,7 @@ impl Bindings {
         ensures { IfOk result (λ b. b.list.items ≡ []) }
     {
         let list = Vec::with_capacity(heap, VARIABLES)?;
-        let index = vec![in heap; 0; VARIABLES]?;
+        let index = vec![in heap; None; VARIABLES]?;
         Ok(Bindings { list, index })
     }
 
@@ -44,23 +45,28 @@ impl Bindings {
         self.list.as_slice()
     }
 
-    // The node at which the walk from n through the bindings ends.
-    pub(crate) fn walk(&self, nodes: &[Node], n: NodeNo) -> NodeNo
-        requires ordered { Ordered nodes.now }
-        requires good { ∥ Good nodes.now self.now.list.items ∥₁ }
-        requires named { Named nodes.now 64 }
-        requires within { n.0 < length nodes.now }
-        ensures { Walked nodes.now self.now.list.items n.0 result.0 }
+    // The place of the binding of a node that is a bound variable.
+    fn place(&self, node: Node) -> Option<usize>
+        requires { (x : ℕ) → node ≡ Var (record { 0 = x }) → x < 64 }
+        ensures { Placed self.now.list.items node result }
     {
+        match node {
+            Node::Var(x) => self.index[x.0 as usize],
+            _ => None,
+        }
+    }
+
+    // The node at which the walk from n through the bindings ends. That bindings are good is said of them and a table, which
+    // no type here holds but the solver, and a part of it is changed while another is read.
+    pub(crate) fn walk(&self, nodes: &NodeTable, n: NodeNo) -> NodeNo
+        requires good { ∥ Good nodes.now.nodes.items self.now.list.items ∥₁ }
+        requires within { n.0 < length nodes.now.nodes.items }
+        ensures { Walked nodes.now.nodes.items self.now.list.items n.0 result.0 }
+    {
+        let table = nodes.as_slice();
         let mut here = n;
-        let mut low = 0;
-        while let Node::Var(x) = nodes[here.0 as usize] {
-            let k = self.index[x.0 as usize] as usize;
-            if k == 0 {
-                return here;
-            }
-            here = self.list[k - 1].node;
-            low = k;
+        while let Some(k) = self.place(table[here.0 as usize]) {
+            here = self.list[k].node;
         }
         here
     }
@@ -71,28 +77,24 @@ impl Bindings {
         ensures { Widened nodes.now.nodes.items self.now.list.items reach.0 result.0 }
     {
         let mut all = reach;
-        for b in self.list.as_slice() {
+        for b in &self.list {
             if all.contains(b.variable) {
-                if let Some(set) = nodes.variables(b.node) {
-                    all = all.union(set);
-                }
+                let set = nodes.variables(b.node).unwrap();
+                all = all.union(set);
             }
         }
         all
     }
 
-    // Whether the variable is reached from the node through terms and bindings.
-    fn reaches(&self, nodes: &NodeTable, n: NodeNo, x: Variable) -> bool
+    // Whether the variable of a new binding is reached from its node through terms and bindings.
+    fn reaches(&self, nodes: &NodeTable, b: Binding) -> bool
         requires good { ∥ Good nodes.now.nodes.items self.now.list.items ∥₁ }
-        requires within { n.0 < length nodes.now.nodes.items }
-        requires start { Start nodes.now.nodes.items self.now.list.items x.0 n.0 }
-        ensures { Answered nodes.now.nodes.items self.now.list.items x.0 n.0 result }
+        requires within { b.node.0 < length nodes.now.nodes.items }
+        requires start { Start nodes.now.nodes.items self.now.list.items b.variable.0 b.node.0 }
+        ensures { Answered nodes.now.nodes.items self.now.list.items b.variable.0 b.node.0 result }
     {
-        let Some(first) = nodes.variables(n) else {
-            return unreachable();
-        };
-        let mut reach = first;
-        while !reach.contains(x) {
+        let mut reach = nodes.variables(b.node).unwrap();
+        while !reach.contains(b.variable) {
             let wider = self.widen(nodes, reach);
             if wider.is_subset(reach) {
                 return false;
@@ -102,42 +104,39 @@ impl Bindings {
         true
     }
 
-    fn put(&mut self, x: Variable, n: NodeNo)
-        requires unbound { Unbound self.old.list.items x.0 }
-        requires narrow { x.0 < 64 }
-        ensures { self.new.list.items ≡ with_binding self.old.list.items x.0 n.0 }
+    fn put(&mut self, b: Binding)
+        requires unbound { Unbound self.old.list.items b.variable.0 }
+        requires narrow { b.variable.0 < 64 }
+        ensures { self.new.list.items ≡ with_binding self.old.list.items b.variable.0 b.node.0 }
     {
-        self.list.push_reserved(Binding {
-            variable: x,
-            node: n,
-        });
-        self.index[x.0 as usize] = self.list.len() as u16;
+        self.index[b.variable.0 as usize] = Some(self.list.len());
+        self.list.push_reserved(b);
     }
 
-    // Binds the variable to the node, unless it is reached from there.
-    pub(crate) fn assign(&mut self, nodes: &NodeTable, x: Variable, n: NodeNo) -> bool
+    // Takes the binding, unless its variable is reached from its node.
+    pub(crate) fn assign(&mut self, nodes: &NodeTable, b: Binding) -> bool
         requires good { ∥ Good nodes.now.nodes.items self.old.list.items ∥₁ }
-        requires within { n.0 < length nodes.now.nodes.items }
-        requires unbound { Unbound self.old.list.items x.0 }
-        requires narrow { x.0 < 64 }
-        requires start { Start nodes.now.nodes.items self.old.list.items x.0 n.0 }
-        ensures { Assigned nodes.now.nodes.items self.old.list.items x.0 n.0 self.new.list.items result }
+        requires within { b.node.0 < length nodes.now.nodes.items }
+        requires unbound { Unbound self.old.list.items b.variable.0 }
+        requires narrow { b.variable.0 < 64 }
+        requires start { Start nodes.now.nodes.items self.old.list.items b.variable.0 b.node.0 }
+        ensures { Assigned nodes.now.nodes.items self.old.list.items b.variable.0 b.node.0 self.new.list.items result }
     {
-        if self.reaches(nodes, n, x) {
+        if self.reaches(nodes, b) {
             return false;
         }
-        self.put(x, n);
+        self.put(b);
         true
     }
 
-    // The first n bindings stay.
+    // The first n bindings stay. One is taken at a time, so that list and index agree after each turn.
     pub(crate) fn cut(&mut self, n: usize)
         ensures { self.new.list.items ≡ take n self.old.list.items }
     {
-        while self.list.len() > n {
-            if let Some(b) = self.list.pop() {
-                self.index[b.variable.0 as usize] = 0;
-            }
+        while self.list.len() > n
+            && let Some(b) = self.list.pop()
+        {
+            self.index[b.variable.0 as usize] = None;
         }
     }
 }

@@ -1,5 +1,5 @@
 // What a matching does.
-ghost use Rattle.std.specs.Prelude.{◌≡◌, ℕ, [], length, take, IfOk};
+ghost use Rattle.std.specs.Prelude.{◌≡◌, ℕ, ◌≤◌, [], length, take, IfOk};
 ghost use Rattle.sheet.specs.Sheets.{content_of};
 ghost use Rattle.unification.specs.Bindings.{Once, FreeValues, Extends};
 ghost use Rattle.matching.specs.Matchings.{nodes_of, bound, Matches, Opened};
@@ -8,7 +8,7 @@ use crate::bindings::Bindings;
 use crate::classes::Classes;
 use crate::fault::{MatchFault, TableFault};
 use crate::matching::Matching;
-use crate::run::run;
+use crate::solver::Solver;
 use sheet::Sheet;
 use std::alloc::{AllocError, Global};
 use terms::{NodeNo, NodeTable};
@@ -17,14 +17,12 @@ use unification::{Ask, Binding};
 const MOST_NODES: usize = 65536;
 
 impl Matching {
-    // A matching of these nodes, with nothing bound. All memory is taken here.
-    pub fn over(heap: Global, nodes: NodeTable) -> Result<Matching, TableFault>
-        ensures { Opened nodes.nodes.items result }
+    // A matching of so few nodes that each has a number, with nothing bound. All memory is taken here.
+    fn of_few(heap: Global, nodes: NodeTable) -> Result<Matching, AllocError>
+        requires { length nodes.nodes.items ≤ 65536 }
+        ensures { IfOk result (λ m. (nodes_of m ≡ nodes.nodes.items) × (bound m ≡ [])) }
     {
         let n = nodes.len();
-        if n > MOST_NODES {
-            return Err(TableFault::TooLong);
-        }
         let bindings = Bindings::new(heap)?;
         let classes = Classes::new(heap, n)?;
         let unused = Ask {
@@ -32,26 +30,30 @@ impl Matching {
             right: NodeNo(0),
         };
         let asks = vec![in heap; unused; n + 1]?;
-        Ok(Matching {
+        let solver = Solver {
             nodes,
             bindings,
             classes,
-            asks,
-        })
+        };
+        Ok(Matching { solver, asks })
+    }
+
+    // A matching of these nodes, with nothing bound.
+    pub fn over(heap: Global, nodes: NodeTable) -> Result<Matching, TableFault>
+        ensures { Opened nodes.nodes.items result }
+    {
+        if nodes.len() > MOST_NODES {
+            return Err(TableFault::TooLong);
+        }
+        Ok(Matching::of_few(heap, nodes)?)
     }
 
     // A matching of the nodes of a sheet, with nothing bound.
     pub fn open(heap: Global, sheet: &Sheet) -> Result<Matching, AllocError>
         ensures { IfOk result (λ m. (nodes_of m ≡ (content_of sheet.now).nodes) × (bound m ≡ [])) }
     {
-        let nodes = sheet.table().copy(heap)?;
-        match Matching::over(heap, nodes) {
-            Ok(m) => Ok(m),
-            Err(fault) => match fault {
-                TableFault::NoMemory => Err(AllocError),
-                TableFault::TooLong => unreachable(),
-            },
-        }
+        let nodes = sheet.table().clone()?;
+        Matching::of_few(heap, nodes)
     }
 
     // The bindings, oldest first.
@@ -61,7 +63,7 @@ impl Matching {
         ensures free { FreeValues (nodes_of self.now) (bound self.now) }
         ensures extends { Extends (nodes_of self.now) (bound self.now) }
     {
-        self.bindings.as_slice()
+        self.solver.bindings.as_slice()
     }
 
     // Whether some instance of the bindings makes two nodes equal; if so, the bindings become those of such instances.
@@ -69,22 +71,15 @@ impl Matching {
         ensures answer { Matches (nodes_of self.old) (bound self.old) a.0 b.0 result (bound self.new) }
         ensures nodes { nodes_of self.new ≡ nodes_of self.old }
     {
-        let n = self.nodes.len();
+        let n = self.solver.nodes.len();
         if a.0 as usize >= n || b.0 as usize >= n {
             return Err(MatchFault::NoSuchNode);
         }
-        let before = self.bindings.len();
-        let yes = run(
-            &self.nodes,
-            &mut self.bindings,
-            &mut self.classes,
-            &mut self.asks,
-            a,
-            b,
-        );
-        self.classes.reset();
+        let before = self.solver.bindings.len();
+        let yes = self.solver.run(&mut self.asks, a, b);
+        self.solver.classes.reset();
         if !yes {
-            self.bindings.cut(before);
+            self.solver.bindings.cut(before);
         }
         Ok(yes)
     }
@@ -94,6 +89,6 @@ impl Matching {
         ensures list { bound self.new ≡ take n (bound self.old) }
         ensures nodes { nodes_of self.new ≡ nodes_of self.old }
     {
-        self.bindings.cut(n);
+        self.solver.bindings.cut(n);
     }
 }

@@ -1,11 +1,16 @@
-// Classes of nodes that have to be equal, as links from each node to its parent.
-ghost use Rattle.std.specs.Prelude.{◌≡◌, ℕ, ◌+◌, ◌<◌, ◌≤◌, [], ◌∷◌, ◌++◌, length, IfOk, vec_len, vec_capacity, slice_set};
-ghost use Rattle.unification.specs.Classes.{up, Own, Lower, Traced};
+// Classes of nodes that have to be equal, as links from each node to its parent. Nodes are shared and known by their numbers,
+// so the links are numbers too.
+ghost use Rattle.std.specs.Prelude.{◌≡◌, ℕ, ◌+◌, ◌<◌, ◌≤◌, ◌⊎◌, [], ◌∷◌, ◌++◌, map, length, IfOk, vec_len, vec_capacity, slice_set};
+ghost use Rattle.std.specs.List.{range_with_len};
+ghost use Rattle.stack.specs.Waiting.{waiting, room};
+ghost use Rattle.unification.specs.Classes.{up, Own, Lower, Traced, Known, United};
 ghost use Rattle.unification.specs.Steps.{heads};
 ghost use Rattle.unification.proofs.Joining.{Way};
 
+use stack::Stack;
 use std::alloc::{AllocError, Global};
 use terms::NodeNo;
+use unification::Ask;
 
 #[derive(Drop)]
 pub struct Classes {
@@ -26,32 +31,30 @@ impl Classes {
         requires { nodes ≤ 65536 }
         ensures { IfOk result (λ t. (vec_len t.parents ≡ nodes) × (t.linked.items ≡ [])) }
     {
-        let mut parents = Vec::with_capacity(heap, nodes)?;
-        for n in 0..nodes {
-            parents.push_reserved(NodeNo(n as u16));
-        }
+        let parents = first_nodes(heap, nodes)?;
         let linked = Vec::with_capacity(heap, nodes)?;
         Ok(Classes { parents, linked })
     }
 
     // The root of the class of n.
-    pub(crate) fn find(&self, n: NodeNo) -> NodeNo
+    fn find(&self, n: NodeNo) -> NodeNo
         requires { n.0 < vec_len self.now.parents }
         ensures low { result.0 ≤ n.0 }
         ensures root { up self.now.parents.items result.0 ≡ result.0 }
         ensures way { Way self.now.parents.items n.0 result.0 }
     {
         let mut here = n;
-        let mut parent = self.parents[here.0 as usize];
-        while parent.0 != here.0 {
+        loop {
+            let parent = self.parents[here.0 as usize];
+            if parent == here {
+                return here;
+            }
             here = parent;
-            parent = self.parents[here.0 as usize];
         }
-        here
     }
 
     // Makes a root the child of a smaller node.
-    pub(crate) fn link(&mut self, root: NodeNo, parent: NodeNo)
+    fn link(&mut self, root: NodeNo, parent: NodeNo)
         requires within { root.0 < vec_len self.old.parents }
         requires root { up self.old.parents.items root.0 ≡ root.0 }
         requires lower { parent.0 < root.0 }
@@ -59,6 +62,35 @@ impl Classes {
     {
         self.linked.push_reserved(root);
         self.parents[root.0 as usize] = parent;
+    }
+
+    // Makes the classes of c and d one; then their parts wait, the second on top.
+    pub(crate) fn join(
+        &mut self,
+        asks: &mut Stack<'_, Ask>,
+        c: NodeNo,
+        d: NodeNo,
+        first: Ask,
+        second: Ask,
+    )
+        requires left { c.0 < vec_len self.old.parents }
+        requires right { d.0 < vec_len self.old.parents }
+        requires free { length (waiting asks.old) + 1 + heads 0 self.old.parents.items ≤ room asks.old }
+        ensures joined { Known self.old.parents.items (waiting asks.old) c.0 d.0 self.new.parents.items (waiting asks.new) ⊎ United self.old.parents.items (waiting asks.old) c.0 d.0 first second self.new.parents.items (waiting asks.new) }
+        ensures size { room asks.new ≡ room asks.old }
+    {
+        let i = self.find(c);
+        let j = self.find(d);
+        if i == j {
+            return;
+        }
+        wait(asks, first);
+        wait(asks, second);
+        if i < j {
+            self.link(j, i);
+        } else {
+            self.link(i, j);
+        }
     }
 
     // Makes every node a class of its own again.
@@ -70,4 +102,22 @@ impl Classes {
             self.parents[n.0 as usize] = n;
         }
     }
+}
+
+// The numbers of so many nodes, in their order.
+fn first_nodes(heap: Global, n: usize) -> Result<Vec<NodeNo>, AllocError>
+    requires { n ≤ 65536 }
+    ensures items { IfOk result (λ v. v.items ≡ map (λ i. record { 0 = i }) (range_with_len 0 n)) }
+    ensures size { IfOk result (λ v. vec_len v ≡ n) }
+{
+    (0..n).map(|i| NodeNo(i as u16)).collect(heap)
+}
+
+// One pair more waits; there is room for it.
+pub(crate) fn wait(asks: &mut Stack<'_, Ask>, a: Ask)
+    requires { length (waiting asks.old) < room asks.old }
+    ensures items { waiting asks.new ≡ waiting asks.old ++ (a ∷ []) }
+    ensures size { room asks.new ≡ room asks.old }
+{
+    asks.push(a).unwrap();
 }

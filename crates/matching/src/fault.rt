@@ -5,10 +5,10 @@ ghost use Rattle.matching.specs.declared.fault.TableFault.TheVariants.{NoMemory}
 
 use std::alloc::AllocError;
 
-#[derive(Clone, Copy, PartialEq, Eq)]
+#[derive(Clone, Copy, Debug, PartialEq, Eq)]
 pub enum MatchFault {
     // a number that is no node's
-    NoSuchNode,
+    NoSuchNode = 50,
 }
 
 impl MatchFault {
@@ -16,13 +16,11 @@ impl MatchFault {
     pub fn number(self) -> u16
         ensures { result ≡ fault_number self }
     {
-        match self {
-            MatchFault::NoSuchNode => 50,
-        }
+        self as u16
     }
 }
 
-#[derive(Clone, Copy, PartialEq, Eq)]
+#[derive(Clone, Copy, Debug, PartialEq, Eq)]
 pub enum TableFault {
     // more nodes than there are node numbers
     TooLong,

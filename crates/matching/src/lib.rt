@@ -6,7 +6,7 @@ mod calls;
 mod classes;
 mod fault;
 mod matching;
-mod run;
+mod solver;
 mod trial;
 
 pub use fault::{MatchFault, TableFault};

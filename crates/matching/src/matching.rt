@@ -1,22 +1,16 @@
-// A matching: a table of nodes, the bindings so far, and the memory that a match works in.
+// A matching: a table of nodes with the bindings so far, and the memory that a match works in.
 ghost use Rattle.std.specs.Prelude.{◌≡◌, ℕ, ◌<◌, length, vec_len};
-ghost use Rattle.unification.specs.Bindings.{Good};
 
-use crate::bindings::Bindings;
-use crate::classes::Classes;
-use terms::NodeTable;
+use crate::solver::Solver;
 use unification::Ask;
 
+// Its invariants are ghost fields, and it has no model: a trial rests on them, and a view would hide them.
 #[derive(Drop)]
 pub struct Matching {
-    pub(crate) nodes: NodeTable,
-    pub(crate) bindings: Bindings,
-    // every node a class of its own between matches
-    pub(crate) classes: Classes,
-    // memory for the pairs that wait
+    pub(crate) solver: Solver,
+    // memory for the pairs that wait, lent to a stack: none is taken after the start
     pub(crate) asks: Vec<Ask>,
-    ghost good: { ∥ Good nodes.nodes.items bindings.list.items ∥₁ },
-    ghost fits: { vec_len classes.parents ≡ length nodes.nodes.items },
-    ghost calm: { vec_len classes.linked ≡ 0 },
-    ghost roomy: { length nodes.nodes.items < vec_len asks },
+    // every node is a class of its own between matches
+    ghost calm: { vec_len solver.classes.linked ≡ 0 },
+    ghost roomy: { length solver.nodes.nodes.items < vec_len asks },
 }

@@ -9,7 +9,8 @@ use terms::NodeNo;
 use unification::{Ask, Binding};
 
 pub struct Trial<'a> {
-    // the matching as it is now; a trial inside this one is a trial of it
+    // the matching as it is now; a trial inside this one is a trial of it. The field is public, since a caller of a method
+    // that lent it out would not know the matching afterwards; and an invariant of it would bind whoever writes it
     pub matching: &'a mut Matching,
     // how many bindings there were
     mark: usize,
@@ -21,12 +22,8 @@ impl Drop for Trial<'_> {
         ensures bound { bound self.exit.0.now ≡ take self.entry.mark (bound self.entry.matching.now) }
         ensures nodes { nodes_of self.exit.0.now ≡ nodes_of self.entry.matching.now }
     {
-        let mark = self.mark;
-        self.matching.cut(mark);
-        let Trial {
-            matching: _,
-            mark: _,
-        } = self;
+        let Trial { matching, mark } = self;
+        matching.cut(mark);
     }
 }
 
@@ -43,7 +40,7 @@ impl<'a> Trial<'a> {
 }
 
 impl Trial<'_> {
-    // As a match of the matching.
+    // As a match of the matching. A call of its own: it says too that the trial keeps what it found.
     pub fn matches(&mut self, a: NodeNo, b: NodeNo) -> Result<bool, MatchFault>
         ensures same { self.new.matching.ghost_name ≡ self.old.matching.ghost_name }
         ensures mark { self.new.mark ≡ self.old.mark }
@@ -53,7 +50,7 @@ impl Trial<'_> {
         self.matching.matches(a, b)
     }
 
-    // The bindings while the trial stands, oldest first.
+    // The bindings while the trial stands, oldest first; lent as by the matching, for callers that have the trial alone.
     pub fn bindings(&self) -> &[Binding]
         ensures list { result.now ≡ bound self.now.matching.now }
         ensures once { Once (bound self.now.matching.now) }

@@ -1,16 +1,13 @@
 // Matches the opens, splits and sames of each strand of the sheet on standard input, and shows what they bind.
 #![tactic(auto)]
 
-use entries::Text;
-use input::read_input;
+use input::{LONGEST, read_input};
 use matching::{Binding, Matching, Trial};
 use protocol::{Step, Strand};
-use sheet::Sheet;
+use sheet::{Sheet, SheetFault, Text};
+use std::alloc::AllocError;
 use std::io;
 use terms::NodeNo;
-
-// the longest file that is looked at
-const MOST: usize = 8192;
 
 // The two nodes that a step makes equal.
 fn sides(step: Step) -> Option<(NodeNo, NodeNo)> {
@@ -24,13 +21,10 @@ fn sides(step: Step) -> Option<(NodeNo, NodeNo)> {
 }
 
 fn show_binding(rt: &HostRuntime, variables: &[Text], b: Binding) -> io::Result<()> {
-    print!(rt; "    ")?;
-    if let Some(text) = variables.get(b.variable.0 as usize) {
-        for byte in text.as_bytes() {
-            print!(rt; "{}", *byte as char)?;
-        }
-    }
-    println!(rt; " is node {}", b.node.0)
+    let name = variables
+        .get(b.variable.0 as usize)
+        .map_or("", |t| t.as_str());
+    println!(rt; "    {name} is node {}", b.node.0)
 }
 
 // The steps of one strand in turn, up to one that cannot be made equal.
@@ -41,21 +35,18 @@ fn show_strand(
     strand: &Strand,
 ) -> io::Result<()> {
     for (i, step) in strand.steps().iter().enumerate() {
-        if let Some((a, b)) = sides(*step) {
-            let before = trial.bindings().len();
-            let yes = matches!(trial.matches(a, b), Ok(true));
-            println!(rt;
-                "  {i} node {} with node {}: {}",
-                a.0,
-                b.0,
-                if yes { "yes" } else { "no" }
-            )?;
-            for new in trial.bindings().iter().skip(before) {
-                show_binding(rt, sheet.variables(), *new)?;
-            }
-            if !yes {
-                break;
-            }
+        let Some((a, b)) = sides(*step) else {
+            continue;
+        };
+        let before = trial.bindings().len();
+        let yes = matches!(trial.matches(a, b), Ok(true));
+        let answer = if yes { "yes" } else { "no" };
+        println!(rt; "  {i} node {} with node {}: {answer}", a.0, b.0)?;
+        for new in trial.bindings().iter().skip(before) {
+            show_binding(rt, sheet.variables(), *new)?;
+        }
+        if !yes {
+            break;
         }
     }
     Ok(())
@@ -73,14 +64,16 @@ fn show(rt: &HostRuntime, sheet: &Sheet) -> io::Result<()> {
 }
 
 fn main(rt: HostRuntime) -> io::Result<()> {
-    let mut buf = [0u8; MOST];
+    // fixed memory, so how many bytes came stands beside it
+    let mut buf = [0u8; LONGEST];
     let n = read_input(&rt, &mut buf)?;
     let mut sheet = Sheet::new(rt.alloc())?;
-    match sheet.read(rt.alloc(), &buf[0..n]) {
+    match sheet.read(rt.alloc(), &buf[..n]) {
         Ok(()) => show(&rt, &sheet),
-        Err(fault) => match (fault.number(), fault.record()) {
-            (Some(number), Some(record)) => println!(rt; "refused {number} {record}"),
-            _ => Err(io::Error::from(std::alloc::AllocError)),
-        },
+        Err(SheetFault::Refused { rule, record }) => {
+            println!(rt; "refused {} {record}", rule.number())
+        }
+        // the fault came of an AllocError, and keeps no more of it than its name
+        Err(SheetFault::NoMemory) => Err(io::Error::from(AllocError)),
     }
 }

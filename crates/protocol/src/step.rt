@@ -1,7 +1,7 @@
 // Steps of a strand, and the property. Terms are given by node numbers.
 use terms::{Label, NodeNo, Variable};
 
-#[derive(Clone, Copy)]
+#[derive(Clone, Copy, Debug, PartialEq, Eq)]
 pub enum Step {
     // a message comes in on a label, and the variable is bound to it
     Input { label: Label, variable: Variable },
@@ -15,13 +15,13 @@ pub enum Step {
     Same { left: NodeNo, right: NodeNo },
 }
 
-#[derive(Clone, Copy, PartialEq, Eq)]
+#[derive(Clone, Copy, Debug, PartialEq, Eq)]
 pub enum Direction {
     Input,
     Output,
 }
 
-#[derive(Clone, Copy)]
+#[derive(Clone, Copy, Debug, PartialEq, Eq)]
 pub struct Action {
     pub direction: Direction,
     pub label: Label,
@@ -29,7 +29,7 @@ pub struct Action {
 }
 
 // The later action never comes without the earlier one before it.
-#[derive(Clone, Copy)]
+#[derive(Clone, Copy, Debug, PartialEq, Eq)]
 pub struct Property {
     pub earlier: Option<Action>,
     pub later: Action,

@@ -4,6 +4,7 @@ ghost use Rattle.std.specs.Prelude.{◌≡◌, ℕ, ◌<◌, ◌≤◌, [], ◌�
 use crate::step::Step;
 use terms::NodeNo;
 
+// Fixed memory: a strand is copied without asking for any, as an ArrayVec of steps is not.
 #[derive(Clone, Copy)]
 pub struct Strand {
     steps: [Step; 16],
@@ -29,21 +30,19 @@ impl Strand {
     pub fn steps(&self) -> &[Step]
         ensures { result.now ≡ take self.now.len self.now.steps }
     {
-        &self.steps[0..self.len]
+        &self.steps[..self.len]
     }
 
     // The strand with one step more, or none where it has sixteen.
     pub fn with(self, step: Step) -> Option<Strand>
         ensures { MatchOption result (length (take self.len self.steps) ≡ 16) (λ s. (length (take self.len self.steps) < 16) × (take s.len s.steps ≡ take self.len self.steps ++ (step ∷ []))) }
     {
-        if self.len == 16 {
+        if self.len == self.steps.len() {
             return None;
         }
-        let mut steps = self.steps;
-        steps[self.len] = step;
-        Some(Strand {
-            steps,
-            len: self.len + 1,
-        })
+        let mut longer = self;
+        longer.steps[self.len] = step;
+        longer.len += 1;
+        Some(longer)
     }
 }

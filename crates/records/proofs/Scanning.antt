@@ -11,9 +11,6 @@ use Rattle.records.proofs.Fronts.{one_front}
 pub encode_push : (rs : List Rec) (r : Rec) (more : List ℕ) → encode_all (rs ++ (r ∷ [])) ++ more ≡ encode_all rs ++ (encode r ++ more)
 encode_push rs r more = ap (λ (l : List ℕ). l ++ more) (sym (flat_map_more encode [] rs r)) ∙ append_assoc (encode_all rs) (encode r) more
 
-pub begins_none : (bs : List ℕ) (n : ℕ) (cs : List ℕ) → n ≡ 0 → cs ≡ bs → Begins bs n cs
-begins_none bs n cs e f = ([], sym e, sym f)
-
 pub begins_more : (bs : List ℕ) (n m : ℕ) (cs ds : List ℕ) (r : Rec) → Begins bs n cs → cs ≡ encode r ++ ds → m ≡ n + 1 → Begins bs m ds
 begins_more bs n m cs ds r b e f =
     (b.0 ++ (r ∷ []), omega (arith, length_push b.0 r, b.1), b.2 ∙ ap (λ (l : List ℕ). encode_all b.0 ++ l) e ∙ sym (encode_push b.0 r ds))

@@ -1,5 +1,5 @@
-// The record reader: a place in lent bytes.
-ghost use Rattle.std.specs.Prelude.{◌≡◌, ◌≤◌, length};
+// The record reader: the part of lent bytes that is still to be read.
+ghost use Rattle.std.specs.Prelude.{◌≡◌, ◌+◌, ◌^◌, ◌<◌, length};
 
 mod reading;
 
@@ -7,11 +7,9 @@ pub use reading::scan;
 
 #[derive(Drop)]
 pub struct Records<'a> {
-    bytes: &'a [u8],
-    at: usize,
+    rest: &'a [u8],
     count: usize,
-    ghost within: { at ≤ length bytes.now },
-    ghost counted: { count ≤ at },
+    ghost counted: { count + length rest.now < 2 ^ 64 },
 }
 
 impl Records<'_> {

@@ -8,7 +8,7 @@ pub struct Record<'a> {
 }
 
 // what is wrong with a file as bytes, and at which record
-#[derive(Clone, Copy)]
+#[derive(Clone, Copy, Debug, PartialEq, Eq)]
 pub enum FileFault {
     // the bytes that are left make no whole record
     Cut(usize),

@@ -1,5 +1,5 @@
-pub mod Emptiness
 pub mod Shapes
+pub mod Tracking
 pub mod Entering
 pub mod Stepping
 pub mod Loading

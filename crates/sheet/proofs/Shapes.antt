@@ -20,6 +20,8 @@ use Rattle.protocol.specs.declared.step.Property.{Property}
 use Rattle.protocol.specs.Strands.{first, second, variable, Bound}
 use Rattle.protocol.specs.Lawful.{Content, IsVar, Apart, OpenPattern, SplitPattern, EarlierLaw, PropertyLaw}
 use Rattle.sheet.specs.Checking.{Just, Shaped, Acted}
+use Rattle.sheet.specs.Tracking.{in?, bound?}
+use Rattle.sheet.proofs.Tracking.{just_bound}
 
 -- the empty set, and the union of two
 pub just_none : (P : ℕ → Type 0) (s : VarSet) → s.0 ≡ 0 → ((x : ℕ) → ¬ P x) → Just P s
@@ -60,10 +62,6 @@ apart_vars ns a b (Env n) m o h k e f p = absurd p
 apart_vars ns a b (Pair c d) m o h k e f p = absurd p
 apart_vars ns a b (Seal c d) m o h k e f p = absurd p
 
--- a set of the nodes, as the table gives it
-pub gathered_none : (ns : List Node) (i : ℕ) → Gathered ns i None → ¬ (i < length ns)
-gathered_none ns i g h = omega arith
-
 module _ (C : Content) (o : ordered? 0 C.nodes ≡ true) where
   pub shaped_input : (l : Label) (x : Variable) (e b u : VarSet) → l.0 < length C.labels → x.0 < length C.variables → length C.variables ≤ 64 → e.0 ≡ 0 → u.0 ≡ 0
       → ((y : ℕ) → (In y b.0 → In y e.0 ⊎ ((y ≡ x.0) × (y < 64))) × (In y e.0 ⊎ ((y ≡ x.0) × (y < 64)) → In y b.0))
@@ -73,9 +71,6 @@ module _ (C : Content) (o : ordered? 0 C.nodes ≡ true) where
     λ y. (λ i. ⊎_elim (λ p. absurd (not_in_zero y (rw z at p))) (λ p. p.0) ((m y).0 i), λ p. (m y).1 (inr (p, omega arith))),
     just_none (λ y. ⊥) u v (λ y p. p),
   )
-
-  pub shaped_output : (l : Label) (n : NodeNo) (b u : VarSet) → l.0 < length C.labels → Gathered C.nodes n.0 (Some u) → b.0 ≡ 0 → Shaped C (step.Output l n) (Some (record { binds = b; uses = u }))
-  shaped_output l n b u h g z = ((h, g.0), just_none (λ y. ⊥) b z (λ y p. p), g.1)
 
   pub shaped_same : (a c : NodeNo) (s t u b : VarSet) → Gathered C.nodes a.0 (Some s) → Gathered C.nodes c.0 (Some t) → u.0 ≡ bit_or s.0 t.0 → b.0 ≡ 0 → Shaped C (step.Same a c) (Some (record { binds = b; uses = u }))
   shaped_same a c s t u b g h e z = ((g.0, h.0), just_none (λ y. ⊥) b z (λ y p. p), just_union _ _ s t u g.1 h.1 e)
@@ -122,17 +117,6 @@ split_pair ns (Var n) w = absurd w
 split_pair ns (Pair a b) w = (a, b, refl)
 split_pair ns (Seal a b) w = absurd w
 
--- whether a pair's halves are apart says whether it is such a pattern
-pub pair_decided : (ns : List Node) (i : ℕ) (a b : NodeNo) (r : Bool) → ordered? 0 ns ≡ true → i < length ns → Pair a b ≡ node ns i → Decides r ((a.0 < length ns) × (b.0 < length ns) × Apart (node ns a.0) (node ns b.0)) → Decides r ((i < length ns) × SplitPattern ns (node ns i))
-pair_decided ns i a b r o h e d =
-    let l = parts_below ns i (Pair a b) o h (sym e) in
-    (λ t. (h, subst (SplitPattern ns) e (d.0 t).2), λ p. d.1 (omega (arith, l.0), omega (arith, l.1), subst (SplitPattern ns) (sym e) p.1))
-
--- the variables of an action
-pub acted : (C : Content) (a : Action) (r : Option VarSet) → a.label.0 < length C.labels → Gathered C.nodes a.node.0 r → Acted C a r
-acted C a None h g = λ w. omega (arith, w.1)
-acted C a (Some s) h g = ((h, g.0), g.1)
-
 -- what a property asks of its variables
 pub bound_decided : (C : Content) (p : Property) (later bound : VarSet) → Acted C p.later (Some later) → Just (Bound C.nodes C.strands) bound → ((x : ℕ) → In x later.0 → In x bound.0 → ⊥) → Vars (λ x. ¬ Bound C.nodes C.strands x) (term C.nodes p.later.node.0)
 bound_decided C p later bound a b d = vars_from _ (term C.nodes p.later.node.0) (λ x i w. d x ((a.1 x).1 i) ((b x).1 w))
@@ -146,9 +130,12 @@ earlier_decided C a b earlier later r p q d = (
   λ w. d.1 (λ x i. (q.1 x).1 (vars_at _ (term C.nodes a.node.0) w.1 x ((p.1 x).0 i))),
 )
 
-module _ (C : Content) (p : Property) (later bound : VarSet) (a : Acted C p.later (Some later)) (b : Just (Bound C.nodes C.strands) bound) where
-  pub clash_decided : (r : Bool) → r ≡ false → Decides r ((x : ℕ) → In x later.0 → In x bound.0 → ⊥) → Decides false (PropertyLaw C p)
-  clash_decided r f d = (λ t. absurd (false≢true t), λ l. absurd (both_ways r f (d.1 (bound_clash C p later bound a b l))))
+module _ (C : Content) (p : Property) (later bound : VarSet) (a : Acted C p.later (Some later)) (all : (x : ℕ) → in? x bound.0 ≡ bound? C.nodes C.strands x) where
+  b : Just (Bound C.nodes C.strands) bound
+  b = just_bound C bound all
+
+  pub clash_decided : (r : Bool) → Decides r ((x : ℕ) → In x later.0 → In x bound.0 → ⊥) → r ≡ false → Decides false (PropertyLaw C p)
+  clash_decided r d f = (λ t. absurd (false≢true t), λ l. absurd (both_ways r f (d.1 (bound_clash C p later bound a b l))))
 
   pub first_decided : ((x : ℕ) → In x later.0 → In x bound.0 → ⊥) → p.earlier ≡ None → Decides true (PropertyLaw C p)
   first_decided d e = (λ t. (a.0, subst (λ (o : Option Action). EarlierLaw C o p.later) (sym e) tt, bound_decided C p later bound a b d), λ l. refl)

@@ -14,8 +14,8 @@ use Rattle.protocol.specs.Lawful.{Content, PropertyLaw}
 use Rattle.records.specs.Bytes.{Rec}
 use Rattle.entries.specs.declared.fault.Rule.{Rule}
 use Rattle.entries.specs.declared.fault.Rule.TheVariants as r
-use Rattle.entries.specs.declared.fault.SheetFault.{SheetFault}
-use Rattle.entries.specs.declared.fault.SheetFault.TheVariants.{Refused, NoMemory}
+use Rattle.sheet.specs.declared.refusal.Refusal.{Refusal}
+use Rattle.sheet.specs.declared.refusal.Refusal.TheVariants.{Broken, NoMemory}
 use Rattle.sheet.specs.declared.tables.Shape.{Shape}
 use Rattle.sheet.specs.View.{steps_of}
 use Rattle.entries.specs.Format.{Entry, step, property, rec, step_entry, property_entry}
@@ -25,6 +25,8 @@ use Rattle.sheet.specs.Checking.{Mentions, Just, Shaped}
 use Rattle.sheet.specs.Drafting.{Tracks, Refuses, Entered, Added}
 use Rattle.entries.proofs.Coding.{rec_one, step_entry_one, property_entry_one}
 use Rattle.entries.proofs.Places.{longer, longer_is, at_last, at_keeps, at_more, at_within}
+use Rattle.sheet.specs.Tracking.{in?, bound?, bound_last?}
+use Rattle.sheet.proofs.Tracking.{tracks, tracked}
 use Rattle.sheet.proofs.Shapes.{just_union, just_same}
 use Rattle.sheet.proofs.Entering.{keeps_upto, with_strands}
 
@@ -43,7 +45,10 @@ uses_at P (opens s y k) u x m = ⊎_elim (λ o. vars_at P s u.0 x o) (λ o. vars
 uses_at P (splits s y z) u x m = vars_at P s u x m
 uses_at P (same s t) u x m = ⊎_elim (λ o. vars_at P s u.0 x o) (λ o. vars_at P t u.1 x o) m
 
-module _ (C : Content) (k a b : ℕ) (p : Step) (e : step_entry p ≡ step k a b) (o : InOrder C (step k a b)) (room : HasRoom C (step k a b)) (s : Shape) (shaped : Shaped C p (Some s)) (bound here : VarSet) (t : Tracks C bound here) where
+module _ (C : Content) (k a b : ℕ) (p : Step) (e : step_entry p ≡ step k a b) (o : InOrder C (step k a b)) (room : HasRoom C (step k a b)) (s : Shape) (shaped : Shaped C p (Some s)) (bound here : VarSet) (all : (x : ℕ) → in? x bound.0 ≡ bound? C.nodes C.strands x) (last : (x : ℕ) → in? x here.0 ≡ bound_last? C.nodes C.strands x) where
+  t : Tracks C bound here
+  t = tracks C bound here all last
+
   good_step : GoodStep C (step k a b)
   good_step = (p, e, shaped.0)
 
@@ -51,13 +56,13 @@ module _ (C : Content) (k a b : ℕ) (p : Step) (e : step_entry p ≡ step k a b
   seven = keeps_upto 7 C (step k a b) (λ _. o) (λ _. room) (λ _. tt) (λ _. tt) (λ _. good_step) (λ l. absurd (omega arith)) (λ l. absurd (omega arith))
 
   -- it binds what a step binds already
-  pub bound_twice : (q : Bool) → q ≡ false → Decides q ((x : ℕ) → In x s.binds.0 → In x bound.0 → ⊥) → Refuses C (step k a b) r.Variable
-  bound_twice q f d =
+  pub bound_twice : (q : Bool) → Decides q ((x : ℕ) → In x s.binds.0 → In x bound.0 → ⊥) → q ≡ false → Refuses C (step k a b) r.Variable
+  bound_twice q d f =
       (seven, λ g. both_ways q f (d.1 (λ x i j. (g p e).0 x ((shaped.1 x).0 i) ((t.0 x).0 j))))
 
   -- it uses what its strand has not bound
-  pub used_early : (q : Bool) → q ≡ false → Decides q ((x : ℕ) → In x s.uses.0 → In x here.0) → Refuses C (step k a b) r.Variable
-  used_early q f d =
+  pub used_early : (q : Bool) → Decides q ((x : ℕ) → In x s.uses.0 → In x here.0) → q ≡ false → Refuses C (step k a b) r.Variable
+  used_early q d f =
       (seven, λ g. both_ways q f (d.1 (λ x i. (t.1 x).1 (uses_at _ (step_of C.nodes p) (g p e).1 x ((shaped.2 x).0 i)))))
 
   pub may_come : ((x : ℕ) → In x s.binds.0 → In x bound.0 → ⊥) → ((x : ℕ) → In x s.uses.0 → In x here.0) → KeepsBelow 9 C (step k a b)
@@ -133,16 +138,19 @@ property_unlawful C k a b l c d t q o e f g = (
   λ w. both_ways q f (g.1 (subst (PropertyLaw C) (property_entry_one w.0 t (w.1 ∙ sym e)) w.2)),
 )
 
--- a step that finds its strand full
-pub step_full : (C : Content) (k a b : ℕ) → KeepsBelow 9 C (step k a b) → 16 ≤ length (latest_steps C) → Refuses C (step k a b) r.Limit
-step_full C k a b h l = (λ q n. h q (omega arith), λ m. omega arith)
+module _ (C : Content) (ss : List (List Step)) (p : Step) (k a b : ℕ) (h : KeepsBelow 9 C (step k a b)) (e : step_entry p ≡ step k a b) (w : ss ≡ longer C.strands (latest C) p) where
+  new_strands : with_strands C ss ≡ with_step C p
+  new_strands = ap (with_strands C) w
 
-pub step_entered : (C : Content) (ss : List (List Step)) (p : Step) (k a b : ℕ) (bound here binds bound' here' : VarSet) → KeepsBelow 9 C (step k a b) → step_entry p ≡ step k a b → Just (λ x. Binds x (step_of C.nodes p)) binds → ss ≡ longer C.strands (latest C) p → Tracks C bound here → bound'.0 ≡ bit_or bound.0 binds.0 → here'.0 ≡ bit_or here.0 binds.0
-    → KeepsBelow 9 C (step k a b) × ((q : Step) × (step_entry q ≡ step k a b) × (with_strands C ss ≡ with_step C q)) × Tracks (with_strands C ss) bound' here'
-step_entered C ss p k a b bound here binds bound' here' h e j w t f g =
-    let s : with_strands C ss ≡ with_step C p = ap (with_strands C) w in
-    let o : InOrder C (step k a b) = h r.Kind (omega arith) in
-    (h, (p, e, s), subst (λ (D : Content). Tracks D bound' here') (sym s) (step_tracks C p o.0 bound here binds bound' here' t j f g))
+  pub step_entered : KeepsBelow 9 C (step k a b) × ((q : Step) × (step_entry q ≡ step k a b) × (with_strands C ss ≡ with_step C q))
+  step_entered = (h, (p, e, new_strands))
+
+  pub step_tracked : (bound here binds bound' here' : VarSet) → ((x : ℕ) → in? x bound.0 ≡ bound? C.nodes C.strands x) → ((x : ℕ) → in? x here.0 ≡ bound_last? C.nodes C.strands x) → Just (λ x. Binds x (step_of C.nodes p)) binds → bound'.0 ≡ bit_or bound.0 binds.0 → here'.0 ≡ bit_or here.0 binds.0
+      → ((x : ℕ) → in? x bound'.0 ≡ bound? C.nodes ss x) × ((x : ℕ) → in? x here'.0 ≡ bound_last? C.nodes ss x)
+  step_tracked bound here binds bound' here' all last j f g =
+      let o : InOrder C (step k a b) = h r.Kind (omega arith) in
+      let t : Tracks (with_step C p) bound' here' = step_tracks C p o.0 bound here binds bound' here' (tracks C bound here all last) j f g in
+      tracked (with_strands C ss) bound' here' (subst (λ (D : Content). Tracks D bound' here') (sym new_strands) t)
 
 -- what breaks a rule as an entry breaks it as a record
 breaks : (C : Content) (e : Entry) (x : Rec) (q : Rule) → rec e ≡ x → Refuses C e q → Breaks q C x
@@ -156,7 +164,7 @@ breaks C e x r.Variable f h = (e, f, h.0, h.1)
 breaks C e x r.Property f h = (e, f, h.0, h.1)
 breaks C e x r.Ended f h = h.1 tt
 
-pub added : (C : Content) (e : Entry) (x : Rec) (at : ℕ) (o : Result (Unit {0}) SheetFault) (D : Content) (b h : VarSet) → rec e ≡ x → Entered C e at o D b h → Added C x at o D b h
-added C e x at (Ok u) D b h f w = (e, f, w.0, w.1, w.2)
-added C e x at (Err (Refused q k)) D b h f w = (w.0, breaks C e x q f w.1)
-added C e x at (Err NoMemory) D b h f w = tt
+pub added : (C : Content) (e : Entry) (x : Rec) (o : Result (Unit {0}) Refusal) (D : Content) → rec e ≡ x → Entered C e o D → Added C x o D
+added C e x (Ok u) D f w = (e, f, w.0, w.1)
+added C e x (Err (Broken q)) D f w = breaks C e x q f w
+added C e x (Err NoMemory) D f w = tt

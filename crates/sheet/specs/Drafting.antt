@@ -1,15 +1,15 @@
 -- What adding an entry to the tables of a sheet answers.
-use Rattle.std.specs.Prelude.{◌≡◌, ℕ, ◌<◌, ◌≤◌, List, [], ◌∷◌, ◌++◌, length, Ok, Err, Result}
+use Rattle.std.specs.Prelude.{◌≡◌, ℕ, List, [], ◌∷◌, ◌++◌, length, Ok, Err, Result}
 use Rattle.records.specs.Bytes.{Rec}
 use Rattle.terms.specs.declared.variables.VarSet.{VarSet}
 use Rattle.protocol.specs.Strands.{Binds, BoundBefore, Bound, step_of}
 use Rattle.protocol.specs.Lawful.{Content, Text}
 use Rattle.entries.specs.declared.fault.Rule.{Rule}
 use Rattle.entries.specs.declared.fault.Rule.TheVariants as r
-use Rattle.entries.specs.declared.fault.SheetFault.{SheetFault}
-use Rattle.entries.specs.declared.fault.SheetFault.TheVariants.{Refused, NoMemory}
 use Rattle.entries.specs.declared.entry.Fields.{Fields}
 use Rattle.sheet.specs.declared.draft.Placed.{Placed}
+use Rattle.sheet.specs.declared.refusal.Refusal.{Refusal}
+use Rattle.sheet.specs.declared.refusal.Refusal.TheVariants.{Broken, NoMemory}
 use Rattle.entries.specs.Format.{Entry, step, rec, step_entry}
 use Rattle.entries.specs.Faults.{number}
 use Rattle.entries.specs.Rules.{latest, latest_steps, Keeps, KeepsBelow, Breaks}
@@ -26,37 +26,28 @@ Tracks C bound here =
 abbrev pub Refuses : Content → Entry → Rule → Type 0
 Refuses C e q = KeepsBelow (number q) C e × ¬ Keeps q C e
 
--- adding an entry at the record `at`
-abbrev pub Entered : Content → Entry → ℕ → Result (Unit {0}) SheetFault → Content → VarSet → VarSet → Type 0
-Entered C e at (Ok u) D bound here = KeepsBelow 9 C e × Adds C e D × Tracks D bound here
-Entered C e at (Err (Refused q k)) D bound here = (k ≡ at) × Refuses C e q
-Entered C e at (Err NoMemory) D bound here = Unit {0}
+-- adding an entry
+abbrev pub Entered : Content → Entry → Result (Unit {0}) Refusal → Content → Type 0
+Entered C e (Ok u) D = KeepsBelow 9 C e × Adds C e D
+Entered C e (Err (Broken q)) D = Refuses C e q
+Entered C e (Err NoMemory) D = Unit {0}
 
 -- adding a record
-abbrev pub Added : Content → Rec → ℕ → Result (Unit {0}) SheetFault → Content → VarSet → VarSet → Type 0
-Added C x at (Ok u) D bound here = (e : Entry) × (rec e ≡ x) × KeepsBelow 9 C e × Adds C e D × Tracks D bound here
-Added C x at (Err (Refused q k)) D bound here = (k ≡ at) × Breaks q C x
-Added C x at (Err NoMemory) D bound here = Unit {0}
+abbrev pub Added : Content → Rec → Result (Unit {0}) Refusal → Content → Type 0
+Added C x (Ok u) D = (e : Entry) × (rec e ≡ x) × KeepsBelow 9 C e × Adds C e D
+Added C x (Err (Broken q)) D = Breaks q C x
+Added C x (Err NoMemory) D = Unit {0}
 
--- adding a text to a table of at most so many
-abbrev pub TextAdded : List (List ℕ) → ℕ → List ℕ → ℕ → Result (Unit {0}) SheetFault → List (List ℕ) → Type 0
-TextAdded ts most t at (Ok u) ts' = (length ts < most) × Text t × (ts' ≡ ts ++ (t ∷ []))
-TextAdded ts most t at (Err (Refused r.Limit k)) ts' = (k ≡ at) × (most ≤ length ts)
-TextAdded ts most t at (Err (Refused r.Text k)) ts' = (k ≡ at) × (length ts < most) × ¬ Text t
-TextAdded ts most t at (Err (Refused r.Whole k)) ts' = ⊥
-TextAdded ts most t at (Err (Refused r.Kind k)) ts' = ⊥
-TextAdded ts most t at (Err (Refused r.Node k)) ts' = ⊥
-TextAdded ts most t at (Err (Refused r.Step k)) ts' = ⊥
-TextAdded ts most t at (Err (Refused r.Variable k)) ts' = ⊥
-TextAdded ts most t at (Err (Refused r.Property k)) ts' = ⊥
-TextAdded ts most t at (Err (Refused r.Ended k)) ts' = ⊥
-TextAdded ts most t at (Err NoMemory) ts' = Unit {0}
+-- adding a text to a table
+abbrev pub TextAdded : List (List ℕ) → List ℕ → Result (Unit {0}) Refusal → List (List ℕ) → Type 0
+TextAdded ts t (Ok u) ts' = Text t × (ts' ≡ ts ++ (t ∷ []))
+TextAdded ts t (Err (Broken q)) ts' = (q ≡ r.Text) × (¬ Text t) × (ts' ≡ ts)
+TextAdded ts t (Err NoMemory) ts' = ts' ≡ ts
 
 -- a step that may be added to the latest strand, and what it binds
-abbrev pub StepPlaced : Content → Fields → ℕ → Result Placed SheetFault → Type 0
-StepPlaced C f at (Ok p) =
+abbrev pub StepPlaced : Content → Fields → Result Placed Rule → Type 0
+StepPlaced C f (Ok p) =
     KeepsBelow 9 C (step f.kind f.a f.b)
     × (step_entry p.step ≡ step f.kind f.a f.b)
     × Just (λ x. Binds x (step_of C.nodes p.step)) p.binds
-StepPlaced C f at (Err (Refused q k)) = (k ≡ at) × Refuses C (step f.kind f.a f.b) q
-StepPlaced C f at (Err NoMemory) = ⊥
+StepPlaced C f (Err q) = Refuses C (step f.kind f.a f.b) q

@@ -7,7 +7,7 @@ use Rattle.entries.specs.declared.text.Text.{Text}
 use Rattle.sheet.specs.declared.tables.Tables.{Tables}
 
 abbrev pub bytes_of : Text → List ℕ
-bytes_of t = take t.len t.bytes
+bytes_of t = t.text.bytes
 
 abbrev pub steps_of : Strand → List Step
 steps_of s = take s.len s.steps

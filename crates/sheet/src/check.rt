@@ -5,15 +5,35 @@ ghost use Rattle.terms.specs.Nodes.{node};
 ghost use Rattle.protocol.specs.Strands.{Bound};
 ghost use Rattle.protocol.specs.Lawful.{IsAtom, Apart, SplitPattern, PropertyLaw};
 ghost use Rattle.sheet.specs.View.{content};
-ghost use Rattle.entries.specs.Format as format;
-ghost use Rattle.entries.specs.Rules.{InOrder};
+ghost use Rattle.entries.specs.Rules.{InOrder, HasRoom, latest_steps};
+ghost use Rattle.entries.specs.Decoding.{entry_of};
 ghost use Rattle.entries.specs.Growth.{nothing};
 ghost use Rattle.sheet.specs.Checking.{Declared, Just, Shaped, SealedVariable, Acted};
 
 use crate::tables::{Shape, Tables};
-use protocol::{Action, Property, Step};
+use entries::Entry;
+use protocol::{Action, Step};
 use std::alloc::Global;
 use terms::{Label, Node, NodeNo, NodeTable, VarSet, Variable};
+
+const MOST_LABELS: usize = 32;
+
+const MOST_NAMES: usize = 64;
+
+const MOST_VARIABLES: usize = 64;
+
+const MOST_NODES: usize = 256;
+
+const MOST_STRANDS: usize = 8;
+
+const MOST_STEPS: usize = 16;
+
+// Whether a table has the number.
+fn has<T>(table: &[T], n: u16) -> bool
+    ensures { Decides result (n < length table.now) }
+{
+    (n as usize) < table.len()
+}
 
 impl Tables {
     pub(crate) fn new(heap: Global) -> Tables
@@ -29,42 +49,48 @@ impl Tables {
         }
     }
 
-    // Whether a strand may come next.
-    pub(crate) fn takes_strand(&self) -> bool
-        ensures { Decides result (InOrder (content self.now) format.strand) }
+    // Whether an entry may come next: labels, names, variables, nodes, then strands with their steps, then the property.
+    pub(crate) fn takes(&self, e: Entry) -> bool
+        ensures { Decides result (InOrder (content self.now) (entry_of e.entry)) }
     {
-        self.property.is_none()
+        let before_end = self.property.is_none();
+        let before_strands = self.strands.is_empty() && before_end;
+        let before_nodes = self.nodes.len() == 0 && before_strands;
+        let before_variables = self.variables.is_empty() && before_nodes;
+        let before_names = self.names.is_empty() && before_variables;
+        match e {
+            Entry::Label(_) => before_names,
+            Entry::Name(_) => before_variables,
+            Entry::Variable(_) => before_nodes,
+            Entry::Node(_) => before_strands,
+            Entry::Strand => before_end,
+            Entry::Step(_) | Entry::Property(_) => !self.strands.is_empty() && before_end,
+        }
     }
 
-    // Whether a step, or the property, may come next.
-    pub(crate) fn takes_step(&self) -> bool
-        ensures { Decides result (InOrder (content self.now) (format.step 0 0 0)) }
+    // Whether the table of an entry has room for one more.
+    pub(crate) fn has_room(&self, e: Entry) -> bool
+        ensures { Decides result (HasRoom (content self.now) (entry_of e.entry)) }
     {
-        self.strands.len() >= 1 && self.property.is_none()
+        match e {
+            Entry::Label(_) => self.labels.len() < MOST_LABELS,
+            Entry::Name(_) => self.names.len() < MOST_NAMES,
+            Entry::Variable(_) => self.variables.len() < MOST_VARIABLES,
+            Entry::Node(_) => self.nodes.len() < MOST_NODES,
+            Entry::Strand => self.strands.len() < MOST_STRANDS,
+            Entry::Step(_) => self.latest_steps().len() < MOST_STEPS,
+            Entry::Property(_) => true,
+        }
     }
 
-    pub(crate) fn takes_node(&self) -> bool
-        ensures { Decides result (InOrder (content self.now) (format.node 0 0 0)) }
+    // The steps of the latest strand.
+    fn latest_steps(&self) -> &[Step]
+        ensures { result.now ≡ latest_steps (content self.now) }
     {
-        self.strands.is_empty() && self.property.is_none()
-    }
-
-    pub(crate) fn takes_variable(&self) -> bool
-        ensures { Decides result (InOrder (content self.now) (format.variable [])) }
-    {
-        self.nodes.len() == 0 && self.takes_node()
-    }
-
-    pub(crate) fn takes_name(&self) -> bool
-        ensures { Decides result (InOrder (content self.now) (format.name [])) }
-    {
-        self.variables.is_empty() && self.takes_variable()
-    }
-
-    pub(crate) fn takes_label(&self) -> bool
-        ensures { Decides result (InOrder (content self.now) (format.label [])) }
-    {
-        self.names.is_empty() && self.takes_name()
+        match self.strands.as_slice().last() {
+            Some(strand) => strand.steps(),
+            None => &[],
+        }
     }
 
     // Whether the names and variables of a node are declared, and its key is a name or a variable.
@@ -72,9 +98,9 @@ impl Tables {
         ensures { Decides result (Declared (content self.now) node) }
     {
         match node {
-            Node::Name(n) => (n.0 as usize) < self.names.len(),
+            Node::Name(n) => has(self.names.as_slice(), n.0),
             Node::Env(_) => false,
-            Node::Var(x) => (x.0 as usize) < self.variables.len(),
+            Node::Var(x) => has(self.variables.as_slice(), x.0),
             Node::Pair { .. } => true,
             Node::Seal { key, .. } => self.is_atom(key),
         }
@@ -83,15 +109,11 @@ impl Tables {
     fn is_atom(&self, n: NodeNo) -> bool
         ensures { Decides result ((n.0 < length (content self.now).nodes) × IsAtom (node (content self.now).nodes n.0)) }
     {
-        match self.nodes.get(n) {
-            Some(Node::Name(_)) | Some(Node::Var(_)) => true,
-            _ => false,
-        }
+        matches!(self.nodes.get(n), Some(Node::Name(_) | Node::Var(_)))
     }
 
     // The variables of a lawful step; none where a label, variable or node is missing or a pattern has the wrong form.
     pub(crate) fn shape(&self, step: Step) -> Option<Shape>
-        requires { length (content self.now).variables ≤ 64 }
         ensures { Shaped (content self.now) step result }
     {
         match step {
@@ -104,13 +126,9 @@ impl Tables {
     }
 
     fn input(&self, label: Label, variable: Variable) -> Option<Shape>
-        requires { length (content self.now).variables ≤ 64 }
         ensures { Shaped (content self.now) (step.Input label variable) result }
     {
-        if label.0 as usize >= self.labels.len() {
-            return None;
-        }
-        if variable.0 as usize >= self.variables.len() {
+        if !has(self.labels.as_slice(), label.0) || !has(self.variables.as_slice(), variable.0) {
             return None;
         }
         Some(Shape {
@@ -122,7 +140,7 @@ impl Tables {
     fn output(&self, label: Label, node: NodeNo) -> Option<Shape>
         ensures { Shaped (content self.now) (step.Output label node) result }
     {
-        if label.0 as usize >= self.labels.len() {
+        if !has(self.labels.as_slice(), label.0) {
             return None;
         }
         let uses = self.nodes.variables(node)?;
@@ -185,11 +203,8 @@ impl Tables {
         ensures { Decides result ((n.0 < length (content self.now).nodes) × SplitPattern (content self.now).nodes (node (content self.now).nodes n.0)) }
     {
         match self.nodes.get(n) {
-            None => false,
-            Some(node) => match node {
-                Node::Pair { left, right } => self.apart(left, right),
-                _ => false,
-            },
+            Some(Node::Pair { left, right }) => self.apart(left, right),
+            _ => false,
         }
     }
 
@@ -203,32 +218,12 @@ impl Tables {
     }
 
     // The variables of a lawful action; none where its label or node is missing.
-    fn action(&self, a: Action) -> Option<VarSet>
+    pub(crate) fn action(&self, a: Action) -> Option<VarSet>
         ensures { Acted (content self.now) a result }
     {
-        if a.label.0 as usize >= self.labels.len() {
+        if !has(self.labels.as_slice(), a.label.0) {
             return None;
         }
         self.nodes.variables(a.node)
-    }
-
-    // Whether a property is lawful, where `bound` are the variables that steps bind.
-    pub(crate) fn allows(&self, p: Property, bound: VarSet) -> bool
-        requires { Just (Bound (content self.now).nodes (content self.now).strands) bound }
-        ensures { Decides result (PropertyLaw (content self.now) p) }
-    {
-        let Some(later) = self.action(p.later) else {
-            return false;
-        };
-        if !later.is_disjoint(bound) {
-            return false;
-        }
-        let Some(action) = p.earlier else {
-            return true;
-        };
-        match self.action(action) {
-            Some(earlier) => earlier.is_subset(later),
-            None => false,
-        }
     }
 }

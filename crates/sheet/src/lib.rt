@@ -6,6 +6,7 @@ mod check;
 mod draft;
 mod query;
 mod read;
+mod refusal;
 mod sheet;
 mod tables;
 

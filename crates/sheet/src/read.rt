@@ -25,7 +25,8 @@ fn read_tables(heap: Global, bytes: &[u8]) -> Result<Tables, SheetFault>
     let mut draft = Draft::new(heap);
     let mut records = Records::new(bytes);
     while let Some(found) = records.next()? {
-        draft.add(found, records.count() - 1)?;
+        let place = records.count() - 1;
+        draft.add(found).map_err(|refusal| refusal.at(place))?;
     }
     if draft.tables.property.is_none() {
         return Err(SheetFault::Refused {
@@ -44,15 +45,14 @@ impl Sheet {
     {
         match read_tables(heap, FIRST) {
             Ok(tables) => Ok(Sheet { tables }),
-            Err(fault) => match fault {
-                SheetFault::NoMemory => Err(AllocError),
-                SheetFault::Refused { .. } => unreachable(),
-            },
+            // the fault came of an AllocError, and keeps no more of it than its name
+            Err(SheetFault::NoMemory) => Err(AllocError),
+            Err(SheetFault::Refused { .. }) => unreachable(),
         }
     }
 
     // Reads a file into this sheet. Where the file is refused, the sheet stays as it was.
-    #[tactic(auto, using(crate::proofs::Loading::lawful_taken))]
+    #[tactic(auto, using(crate::proofs::Loading::lawful_taken, crate::proofs::Loading::lawful_exactly, entries::proofs::OneReply::one_reply))]
     pub fn read(&mut self, heap: Global, bytes: &[u8]) -> Result<(), SheetFault>
         ensures reply { ReadInto (content_of self.old) bytes.now result (content_of self.new) }
         ensures one { OneReply }

@@ -1,4 +1,6 @@
 // The tables of a sheet, filled record by record.
+ghost use Rattle.std.specs.Prelude.{◌≤◌, vec_len};
+
 use entries::Text;
 use protocol::{Property, Strand};
 use terms::{NodeTable, VarSet};
@@ -11,6 +13,7 @@ pub struct Tables {
     pub(crate) nodes: NodeTable,
     pub(crate) strands: Vec<Strand>,
     pub(crate) property: Option<Property>,
+    ghost few_variables: { vec_len variables ≤ 64 },
 }
 
 // The variables that a step binds, and those that it uses without binding them.

@@ -5,8 +5,7 @@ use Rattle.protocol.specs.Lawful.{Content}
 use Rattle.entries.specs.declared.fault.SheetFault.{SheetFault}
 use Rattle.entries.specs.declared.fault.SheetFault.TheVariants as fault
 use Rattle.sheet.specs.Loading.{ReadInto}
-use Rattle.sheet_cases.specs.declared.reply.Reply.{Reply}
-use Rattle.sheet_cases.specs.Replies.{Told, Answers}
+use Rattle.sheet_cases.specs.Replies.{Reply, Told, Answers}
 
 pub answered : (bs : List ℕ) (B A : Content) (res : Result (Unit {0}) SheetFault) (r : Result Reply AllocError) → ReadInto B bs res A → MatchResult r (Told res) (λ _. res ≡ Err fault.NoMemory) → IfOk r (Answers bs)
 answered bs B A res (Err y) h t = tt

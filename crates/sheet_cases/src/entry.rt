@@ -1,6 +1,7 @@
-// What stands in a sheet file, as data, lawful or not.
+// What stands in a sheet file, as data, lawful or not. A kind is a number, since some of the cases have kinds that there
+// are not, and the numbers stand in a row as they do in the file.
 
-#[derive(Clone, Copy)]
+#[derive(Clone, Copy, Debug)]
 pub enum Entry<'a> {
     Label(&'a [u8]),
     Name(&'a [u8]),

@@ -52,44 +52,8 @@ impl SheetFile {
         self.raw(body)
     }
 
-    pub fn label(&mut self, text: &[u8]) -> Result<(), AllocError>
-        ensures { Wrote self.old (record_bytes 1 text.now) result self.new }
-    {
-        self.record(1, text)
-    }
-
-    pub fn name(&mut self, text: &[u8]) -> Result<(), AllocError>
-        ensures { Wrote self.old (record_bytes 2 text.now) result self.new }
-    {
-        self.record(2, text)
-    }
-
-    pub fn variable(&mut self, text: &[u8]) -> Result<(), AllocError>
-        ensures { Wrote self.old (record_bytes 3 text.now) result self.new }
-    {
-        self.record(3, text)
-    }
-
-    pub fn node(&mut self, kind: u16, a: u16, b: u16) -> Result<(), AllocError>
-        ensures { Wrote self.old (flat_map word (6 ∷ 4 ∷ kind ∷ a ∷ b ∷ [])) result self.new }
-    {
-        self.words(&[6, 4, kind, a, b])
-    }
-
-    pub fn strand(&mut self) -> Result<(), AllocError>
-        ensures { Wrote self.old (flat_map word (0 ∷ 5 ∷ [])) result self.new }
-    {
-        self.words(&[0, 5])
-    }
-
-    pub fn step(&mut self, kind: u16, a: u16, b: u16) -> Result<(), AllocError>
-        ensures { Wrote self.old (flat_map word (6 ∷ 6 ∷ kind ∷ a ∷ b ∷ [])) result self.new }
-    {
-        self.words(&[6, 6, kind, a, b])
-    }
-
     // Direction, label and node of the earlier action, and then of the later one.
-    pub fn property(&mut self, actions: [u16; 6]) -> Result<(), AllocError>
+    fn property(&mut self, actions: [u16; 6]) -> Result<(), AllocError>
         ensures { Wrote self.old (flat_map word (12 ∷ 7 ∷ actions)) result self.new }
     {
         self.words(&[12, 7])?;
@@ -100,12 +64,12 @@ impl SheetFile {
         ensures { Wrote self.old (entry_bytes e.entry) result self.new }
     {
         match e {
-            Entry::Label(text) => self.label(text),
-            Entry::Name(text) => self.name(text),
-            Entry::Variable(text) => self.variable(text),
-            Entry::Node(kind, a, b) => self.node(kind, a, b),
-            Entry::Strand => self.strand(),
-            Entry::Step(kind, a, b) => self.step(kind, a, b),
+            Entry::Label(text) => self.record(1, text),
+            Entry::Name(text) => self.record(2, text),
+            Entry::Variable(text) => self.record(3, text),
+            Entry::Node(kind, a, b) => self.words(&[6, 4, kind, a, b]),
+            Entry::Strand => self.words(&[0, 5]),
+            Entry::Step(kind, a, b) => self.words(&[6, 6, kind, a, b]),
             Entry::Property(actions) => self.property(actions),
             Entry::Record(kind, body) => self.record(kind, body),
             Entry::Bytes(bytes) => self.raw(bytes),

@@ -1,4 +1,4 @@
-// The numbers that stand for kinds in a sheet file.
+// The numbers that stand for kinds in a sheet file. No enum: some of the cases have kinds that there are not.
 
 // kinds of nodes
 pub const NAME: u16 = 1;

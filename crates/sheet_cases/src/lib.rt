@@ -10,4 +10,4 @@ mod tests;
 
 pub use entry::Entry;
 pub use file::SheetFile;
-pub use reply::{Reply, reply_to};
+pub use reply::{Refused, Reply, reply_of, reply_to};

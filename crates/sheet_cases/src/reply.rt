@@ -6,24 +6,27 @@ ghost use Rattle.sheet_cases.specs.Replies.{Told, Answers};
 use sheet::{Sheet, SheetFault};
 use std::alloc::{AllocError, Global};
 
-#[derive(Clone, Copy, PartialEq, Eq, Debug)]
-pub enum Reply {
-    Taken,
-    Refused { number: u16, record: usize },
+// the number of the refusal, and the record that is refused; a number, since that is what is tested
+#[derive(Clone, Copy, Debug, PartialEq, Eq)]
+pub struct Refused {
+    pub number: u16,
+    pub record: usize,
 }
 
-impl Reply {
-    // Want of memory is no reply.
-    pub fn of(res: Result<(), SheetFault>) -> Result<Reply, AllocError>
-        ensures { MatchResult result (Told res) (λ _. res ≡ Err NoMemory) }
-    {
-        match res {
-            Ok(()) => Ok(Reply::Taken),
-            Err(fault) => match (fault.number(), fault.record()) {
-                (Some(number), Some(record)) => Ok(Reply::Refused { number, record }),
-                _ => Err(AllocError),
-            },
-        }
+pub type Reply = Result<(), Refused>;
+
+// The reply that a reading gave. Want of memory is no reply.
+pub fn reply_of(res: Result<(), SheetFault>) -> Result<Reply, AllocError>
+    ensures { MatchResult result (Told res) (λ _. res ≡ Err NoMemory) }
+{
+    match res {
+        Ok(()) => Ok(Ok(())),
+        Err(SheetFault::Refused { rule, record }) => Ok(Err(Refused {
+            number: rule.number(),
+            record,
+        })),
+        // the fault came of an AllocError, and keeps no more of it than its name
+        Err(SheetFault::NoMemory) => Err(AllocError),
     }
 }
 
@@ -32,5 +35,5 @@ pub fn reply_to(heap: Global, bytes: &[u8]) -> Result<Reply, AllocError>
     ensures { IfOk result (Answers bytes.now) }
 {
     let mut sheet = Sheet::new(heap)?;
-    Reply::of(sheet.read(heap, bytes))
+    reply_of(sheet.read(heap, bytes))
 }

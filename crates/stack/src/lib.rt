@@ -1,33 +1,37 @@
 // Waiting items over lent memory, for every kind of record: the latest comes first.
 #![tactic(auto)]
 
-ghost use Rattle.std.specs.Prelude.{◌≡◌, [], length};
-ghost use Rattle.stack.specs.Waiting.{waiting, room, Pushed, Popped, fault_number};
+ghost use Rattle.std.specs.Prelude.{◌≡◌, ◌≤◌, [], length};
 
+// The memory is lent, so the number of waiting items stands beside it.
 #[derive(Drop)]
 pub struct Stack<'a, T> {
     items: &'a mut [T],
     len: usize,
+    ghost within: { len ≤ length items.now },
 }
 
-#[derive(Clone, Copy)]
+// why an item is not taken, with the number of the refusal
+#[derive(Clone, Copy, Debug, PartialEq, Eq)]
 pub enum StackFault {
     // the waiting items fill the memory
-    Full,
+    Full = 70,
 }
 
 impl StackFault {
+    ghost use Rattle.stack.specs.Waiting.{fault_number};
+
     // The number of the refusal.
     pub fn number(self) -> u16
         ensures { result ≡ fault_number self }
     {
-        match self {
-            StackFault::Full => 70,
-        }
+        self as u16
     }
 }
 
 impl<'a, T: Copy> Stack<'a, T> {
+    ghost use Rattle.stack.specs.Waiting.{waiting, room, Pushed, Popped};
+
     // A stack on which nothing waits, in this memory.
     pub fn new(items: &'a mut [T]) -> Stack<'a, T>
         ensures empty { waiting result ≡ [] }
@@ -36,11 +40,18 @@ impl<'a, T: Copy> Stack<'a, T> {
         Stack { items, len: 0 }
     }
 
+    // The items that wait, the latest last.
+    fn as_slice(&self) -> &[T]
+        ensures { result.now ≡ waiting self.now }
+    {
+        &self.items[..self.len]
+    }
+
     // How many items wait.
     pub fn len(&self) -> usize
         ensures { result ≡ length (waiting self.now) }
     {
-        self.len.min(self.items.len())
+        self.as_slice().len()
     }
 
     // One item more; refused exactly where the waiting items fill the memory.
@@ -61,11 +72,7 @@ impl<'a, T: Copy> Stack<'a, T> {
         ensures size { room self.new ≡ room self.old }
         ensures items { Popped (waiting self.old) result (waiting self.new) }
     {
-        let n = self.len.min(self.items.len());
-        if n == 0 {
-            return None;
-        }
-        self.len = n - 1;
-        Some(self.items[n - 1])
+        self.len = self.len.checked_sub(1)?;
+        Some(self.items[self.len])
     }
 }

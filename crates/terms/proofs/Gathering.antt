@@ -1,14 +1,15 @@
 -- The sets of variables of a table's terms: one at a place, and one more.
-use Rattle.std.proofs.Common.{◌≡◌, ℕ, ◌+◌, ◌<◌, true, List, [], ◌∷◌, ◌++◌, map, length, get_or, sym, refl, ap, ◌∙◌, ap₂, ⊎_elim, arith}
+use Rattle.std.proofs.Common.{◌≡◌, ℕ, ◌+◌, ◌<◌, true, List, [], ◌∷◌, ◌++◌, map, length, get_or, Option, Some, None, Bor, option_copied, sym, refl, ap, ◌∙◌, ap₂, ⊎_elim, arith}
 use Rattle.std.proofs.lemmas.List.{length-map, get_or-map, map_push, length_push, get_or_push, get_or_append_left}
-use Rattle.std.proofs.lemmas.Bool.{cases_lt}
+use Rattle.std.proofs.lemmas.Bool.{cases_lt, ltb-true, ltb-false}
+use Rattle.std.specs.Slice.{IsItemAt}
 use Rattle.terms.specs.declared.node.Node.{Node}
 use Rattle.terms.specs.declared.node.Node.TheVariants.{Var}
 use Rattle.terms.specs.declared.variables.VarSet.{VarSet}
 use Rattle.terms.specs.Terms.{Term, name, Occurs}
 use Rattle.terms.specs.Bits.{In, varset}
 use Rattle.terms.specs.Nodes.{no_node, node, says, terms, term, Below, Narrow, ordered?}
-use Rattle.terms.specs.Sets.{set_of, sets}
+use Rattle.terms.specs.Sets.{set_of, sets, Gathered}
 use Rattle.terms.proofs.Bitsets.{in_varset, varset_in}
 use Rattle.terms.proofs.Unfolding.{grows, length_terms, ordered_push}
 
@@ -22,6 +23,14 @@ set_at vs ns i s e h r =
 
 pub set_members : (t : Term) (s : ℕ) → s ≡ varset t → (x : ℕ) → (In x s → Occurs x t) × (Occurs x t → In x s)
 set_members t s e x = (λ h. in_varset x t (rw e at h), λ o. rw e (varset_in x t o))
+
+-- a look at a place finds the variables of the term there
+pub gathered_at : (vs : List VarSet) (ns : List Node) (i : ℕ) (r : Option (Bor VarSet)) → vs ≡ sets ns → IsItemAt vs i r → Gathered ns i (option_copied r)
+gathered_at vs ns i None e h = let l = ap length e ∙ length_sets ns in omega (arith, ltb-false _ _ (sym h.0))
+gathered_at vs ns i (Some x) e h =
+    let l = ap length e ∙ length_sets ns in
+    let k : i < length ns = omega (arith, ltb-true _ _ (sym h.0)) in
+    (k, set_members _ _ (set_at vs ns i x.now e k h.1))
 
 pub sets_none : sets [] ≡ []
 unfolding terms

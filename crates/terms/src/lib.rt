@@ -1,6 +1,5 @@
 #![tactic(auto)]
 
-mod bits;
 mod node;
 mod number;
 mod table;

@@ -1,4 +1,5 @@
-// A node: a term whose parts are other nodes of the same table.
+// A node: a term whose parts are other nodes of the same table, by their numbers. Nodes are shared, and a term may be far
+// larger than its table, so no term is a tree of boxes.
 ghost use Rattle.std.specs.Prelude.{◌≡◌};
 ghost use Rattle.terms.specs.declared.node.NodeFault.TheVariants.{NoMemory};
 
@@ -24,6 +25,7 @@ pub enum NodeFault {
     NoMemory,
 }
 
+// Two, since the library has an error with a value handed back and one without.
 impl From<AllocError> for NodeFault {
     ghost from_gives = { λ _ r. r ≡ NoMemory };
 

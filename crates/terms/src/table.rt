@@ -13,6 +13,7 @@ use std::alloc::{AllocError, Global};
 #[derive(Drop)]
 pub struct NodeTable {
     nodes: Vec<Node>,
+    // A list of its own, though each set goes with a node: the nodes are lent as one slice.
     variables: Vec<VarSet>,
     ghost ordered: { ordered? 0 nodes.items ≡ true },
     ghost gathered: { variables.items ≡ sets nodes.items },
@@ -24,6 +25,17 @@ pub fn terms_unfold()
     ensures { Unfolds }
 {}
 
+// A table with the same nodes.
+impl Clone for NodeTable {
+    ghost is_clone = { λ t u. u.nodes.items ≡ t.nodes.items };
+
+    fn clone(&self) -> Result<NodeTable, AllocError> {
+        let nodes = self.nodes.clone()?;
+        let variables = self.variables.clone()?;
+        Ok(NodeTable { nodes, variables })
+    }
+}
+
 impl NodeTable {
     pub fn new(heap: Global) -> NodeTable
         ensures { result.nodes.items ≡ [] }
@@ -32,15 +44,6 @@ impl NodeTable {
             nodes: Vec::new(heap),
             variables: Vec::new(heap),
         }
-    }
-
-    // A table with the same nodes.
-    pub fn copy(&self, heap: Global) -> Result<NodeTable, AllocError>
-        ensures { IfOk result (λ t. t.nodes.items ≡ self.now.nodes.items) }
-    {
-        let nodes = Vec::from_slice(heap, self.as_slice())?;
-        let variables = Vec::from_slice(heap, self.variables.as_slice())?;
-        Ok(NodeTable { nodes, variables })
     }
 
     pub fn len(&self) -> usize
@@ -58,34 +61,29 @@ impl NodeTable {
     pub fn get(&self, n: NodeNo) -> Option<Node>
         ensures { Found self.now.nodes.items n.0 result }
     {
-        let i = n.0 as usize;
-        if i < self.len() {
-            Some(self.nodes[i])
-        } else {
-            None
-        }
+        self.as_slice().get(n.0 as usize).copied()
     }
 
     // The variables of the term of a node.
     pub fn variables(&self, n: NodeNo) -> Option<VarSet>
         ensures { Gathered self.now.nodes.items n.0 result }
     {
-        let i = n.0 as usize;
-        if i < self.variables.len() {
-            Some(self.variables[i])
-        } else {
-            None
-        }
+        self.variables.as_slice().get(n.0 as usize).copied()
+    }
+
+    fn holds(&self, n: NodeNo) -> bool
+        ensures { Decides result (n.0 < length self.now.nodes.items) }
+    {
+        (n.0 as usize) < self.len()
     }
 
     // Whether each reference of a node is to a node of the table.
     fn has_parts(&self, node: Node) -> bool
         ensures { Decides result (Below (length self.now.nodes.items) node) }
     {
-        let n = self.len();
         match node {
-            Node::Pair { left, right } => (left.0 as usize) < n && (right.0 as usize) < n,
-            Node::Seal { body, key } => (body.0 as usize) < n && (key.0 as usize) < n,
+            Node::Pair { left: a, right: b } | Node::Seal { body: a, key: b } => self.holds(a)
+                && self.holds(b),
             Node::Name(_) | Node::Env(_) | Node::Var(_) => true,
         }
     }
@@ -96,11 +94,9 @@ impl NodeTable {
         ensures { result ≡ set_of (says (term self.now.nodes.items) node) }
     {
         match node {
-            Node::Name(_) => VarSet::empty(),
-            Node::Env(_) => VarSet::empty(),
+            Node::Name(_) | Node::Env(_) => VarSet::empty(),
             Node::Var(v) => VarSet::empty().with(v),
-            Node::Pair { left, right } => self.join(left, right),
-            Node::Seal { body, key } => self.join(body, key),
+            Node::Pair { left: a, right: b } | Node::Seal { body: a, key: b } => self.join(a, b),
         }
     }
 
@@ -134,6 +130,6 @@ fn narrow(node: Node) -> bool
 {
     match node {
         Node::Var(v) => v.0 < 64,
-        Node::Name(_) | Node::Env(_) | Node::Pair { .. } | Node::Seal { .. } => true,
+        _ => true,
     }
 }

@@ -1,11 +1,10 @@
-// Sets of variables with numbers below 64.
+// Sets of variables with numbers below 64, as the bits of a number.
 ghost use Rattle.std.specs.Prelude.{◌≡◌, ℕ, ◌^◌, ◌<◌, ◌⊎◌, if◌then◌else◌, Decides, bit_or, nat_lt};
 ghost use Rattle.terms.specs.Bits.{In};
 
-use crate::bits;
 use crate::number::Variable;
 
-#[derive(Clone, Copy, PartialEq, Eq)]
+#[derive(Clone, Copy, Debug, PartialEq, Eq)]
 pub struct VarSet(u64);
 
 impl VarSet {
@@ -20,7 +19,11 @@ impl VarSet {
         ensures value { result.0 ≡ (if nat_lt v.0 64 then bit_or self.0 (2 ^ v.0) else self.0) }
         ensures members { (x : ℕ) → (In x result.0 → In x self.0 ⊎ ((x ≡ v.0) × (x < 64))) × (In x self.0 ⊎ ((x ≡ v.0) × (x < 64)) → In x result.0) }
     {
-        VarSet(bits::add(self.0, v.0))
+        if v.0 < 64 {
+            VarSet(self.0 | 1 << v.0)
+        } else {
+            self
+        }
     }
 
     pub fn union(self, other: VarSet) -> VarSet
@@ -32,18 +35,18 @@ impl VarSet {
     pub fn contains(self, v: Variable) -> bool
         ensures { Decides result (In v.0 self.0) }
     {
-        bits::has(self.0, v.0)
+        v.0 < 64 && (self.0 >> v.0) & 1 == 1
     }
 
     pub fn is_subset(self, other: VarSet) -> bool
         ensures { Decides result ((x : ℕ) → In x self.0 → In x other.0) }
     {
-        bits::within(self.0, other.0)
+        self.0 & other.0 == self.0
     }
 
     pub fn is_disjoint(self, other: VarSet) -> bool
         ensures { Decides result ((x : ℕ) → In x self.0 → In x other.0 → ⊥) }
     {
-        bits::apart(self.0, other.0)
+        self.0 & other.0 == 0
     }
 }

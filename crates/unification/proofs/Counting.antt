@@ -1,60 +1,53 @@
 -- Room that is reserved suffices: there are no more bindings than variables, and no more links than nodes.
-use mathlib.Core.Path.{◌≡◌, sym, ap, ◌∙◌, subst}
+use mathlib.Core.Path.{◌≡◌, refl, sym, ap, ◌∙◌, subst}
 use mathlib.Core.List.{List, [], ◌∷◌, ◌++◌}
 use mathlib.Core.Bool.{Bool, true, false}
-use Prim.Native.Nat.{ℕ, zero, suc, ◌+◌, ◌-◌, ◌<◌, ◌≤◌}
+use Prim.Native.Nat.{ℕ, zero, suc, ◌+◌, ◌<◌, ◌≤◌}
 use native.Mathlib.Nat.{not-suc-le-zero, le_of_suc-le-suc}
-use native.Mathlib.Decide.{ℕ_discrete}
 use native.Mathlib.Omega.{arith}
 use borrow.Author.Tests.{eq-eqb, ne_eqb}
 use lib.Dec.{eqb}
 use lib.ListN.{length, get_or, set, length-set, length-append}
 use Rattle.terms.specs.declared.number.NodeNo.{NodeNo}
 use Rattle.unification.specs.Bindings.{Unbound}
-use Rattle.unification.specs.Index.{Indexed, zeros, Counted}
+use Rattle.unification.specs.Index.{Indexed, Counted}
+use Rattle.std.specs.Prelude.{Option, Some, None, is_none, count_by, cond}
+use Rattle.std.proofs.lemmas.List.Sums.{sum_by-set}
 use Rattle.unification.specs.Classes.{up}
 use Rattle.unification.specs.Steps.{bit, heads}
 use Rattle.unification.specs.declared.binding.Binding.{Binding}
 use Rattle.unification.proofs.Ranking.{variable_new}
 
-zeros_fill : (I : List ℕ) (x k : ℕ) → x < length I → get_or I x 0 ≡ 0 → zeros (set I x (suc k)) + 1 ≡ zeros I
-zeros_fill [] x k h e = absurd (not-suc-le-zero h)
-zeros_fill (zero ∷ xs) zero k h e = omega arith
-zeros_fill (suc n ∷ xs) zero k h e = absurd (omega arith)
-zeros_fill (zero ∷ xs) (suc x) k h e = let r = zeros_fill xs x k (le_of_suc-le-suc h) e in omega arith
-zeros_fill (suc n ∷ xs) (suc x) k h e = zeros_fill xs x k (le_of_suc-le-suc h) e
+abbrev one_if_none : Option ℕ → ℕ
+one_if_none o = cond (is_none o) 1 0
 
-zeros_free : (I : List ℕ) (x k : ℕ) → x < length I → get_or I x 0 ≡ suc k → zeros (set I x 0) ≡ zeros I + 1
-zeros_free [] x k h e = absurd (not-suc-le-zero h)
-zeros_free (zero ∷ xs) zero k h e = absurd (omega arith)
-zeros_free (suc n ∷ xs) zero k h e = omega arith
-zeros_free (zero ∷ xs) (suc x) k h e = let r = zeros_free xs x k (le_of_suc-le-suc h) e in omega arith
-zeros_free (suc n ∷ xs) (suc x) k h e = zeros_free xs x k (le_of_suc-le-suc h) e
+-- an unbound variable has no place in the index
+unbound_none : (B : List Binding) (I : List (Option ℕ)) (x : ℕ) (o : Option ℕ) → Indexed B I → Unbound B x → get_or I x None ≡ o → o ≡ None
+unbound_none B I x None d u e = refl
+unbound_none B I x (Some k) d u e = let r = d.1 x k e in absurd (u k r.0 r.1)
 
--- an unbound variable has 0 in the index
-unbound_zero : (B : List Binding) (I : List ℕ) (x : ℕ) → Indexed B I → Unbound B x → x < length I → get_or I x 0 ≡ 0
-unbound_zero B I x d u h =
-    elim (ℕ_discrete (get_or I x 0) 0) [
-      | yes e ↦ e
-      | no f ↦
-          let e : get_or I x 0 ≡ suc (get_or I x 0 - 1) = omega arith in
-          let r = d.1 x (get_or I x 0 - 1) h e in
-          absurd (u (get_or I x 0 - 1) r.0 r.1)
-    ]
+-- one place more is one variable less that has none
+filled : (B : List Binding) (I : List (Option ℕ)) (x k : ℕ) → Indexed B I → Unbound B x → x < length I → count_by is_none (set I x (Some k)) + 1 ≡ count_by is_none I
+filled B I x k d u h =
+    let r = sum_by-set one_if_none I x (Some k) None h in
+    let e : one_if_none (get_or I x None) ≡ 1 = ap one_if_none (unbound_none B I x (get_or I x None) d u refl) in
+    omega arith
 
-pub counted_room : (B : List Binding) (I : List ℕ) (x : ℕ) → Indexed B I → Counted B I → Unbound B x → x < length I → length B < length I
-counted_room B I x d c u h = let r = zeros_fill I x 0 h (unbound_zero B I x d u h) in omega arith
+pub counted_room : (B : List Binding) (I : List (Option ℕ)) (x : ℕ) → Indexed B I → Counted B I → Unbound B x → x < length I → length B < length I
+counted_room B I x d c u h = let r = filled B I x 0 d u h in omega arith
 
-pub counted_put : (B : List Binding) (I : List ℕ) (b : Binding) (k : ℕ) → Indexed B I → Counted B I → Unbound B b.variable.0 → b.variable.0 < length I → Counted (B ++ (b ∷ [])) (set I b.variable.0 (suc k))
-counted_put B I b k d c u h = let r = zeros_fill I b.variable.0 k h (unbound_zero B I b.variable.0 d u h) in omega (arith, length-append B (b ∷ []), length-set I b.variable.0 (suc k))
+pub counted_put : (B : List Binding) (I : List (Option ℕ)) (b : Binding) (k : ℕ) → Indexed B I → Counted B I → Unbound B b.variable.0 → b.variable.0 < length I → Counted (B ++ (b ∷ [])) (set I b.variable.0 (Some k))
+counted_put B I b k d c u h = let r = filled B I b.variable.0 k d u h in omega (arith, length-append B (b ∷ []), length-set I b.variable.0 (Some k))
 
-pub counted_pop : (B B₀ : List Binding) (I : List ℕ) (b : Binding) → B₀ ≡ B ++ (b ∷ []) → Indexed B₀ I → Counted B₀ I → Counted B (set I b.variable.0 0)
+pub counted_pop : (B B₀ : List Binding) (I : List (Option ℕ)) (b : Binding) → B₀ ≡ B ++ (b ∷ []) → Indexed B₀ I → Counted B₀ I → Counted B (set I b.variable.0 None)
 counted_pop B B₀ I b e d c =
     let d' : Indexed (B ++ (b ∷ [])) I = subst (λ (C : List Binding). Indexed C I) e d in
     let here = d'.0 (length B) (omega (arith, length-append B (b ∷ []))) in
     let v = variable_new B b in
-    let r = zeros_free I b.variable.0 (length B) (omega (arith, here.0, v)) (ap (λ (y : ℕ). get_or I y 0) (sym v) ∙ here.1) in
-    omega (arith, ap length e, length-append B (b ∷ []), length-set I b.variable.0 0)
+    let h : b.variable.0 < length I = omega (arith, here.0, v) in
+    let r = sum_by-set one_if_none I b.variable.0 None None h in
+    let q : one_if_none (get_or I b.variable.0 None) ≡ 0 = ap (λ (y : ℕ). one_if_none (get_or I y None)) (sym v) ∙ ap one_if_none here.1 in
+    omega (arith, ap length e, length-append B (b ∷ []), length-set I b.variable.0 None)
 
 -- a root is counted
 pub heads_some : (k : ℕ) (P : List NodeNo) (i : ℕ) → i < length P → up P i ≡ k + i → 1 ≤ heads k P

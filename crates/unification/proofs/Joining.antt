@@ -7,7 +7,7 @@ use Rattle.terms.specs.Terms.{Term}
 use Rattle.terms.specs.declared.number.NodeNo.{NodeNo}
 use Rattle.unification.specs.Classes.{up, Near, Linked, Known, United}
 use Rattle.unification.specs.declared.ask.Ask.{Ask}
-use Rattle.unification.proofs.Nearness.{near_eq, near_sym, near_trans}
+use Rattle.unification.proofs.Nearness.{near_sym, near_trans}
 
 -- the way from a node to its root
 abbrev pub Way : List NodeNo → ℕ → ℕ → Type 0
@@ -46,9 +46,6 @@ module _ (P : List NodeNo) (W : List Ask) (c d : ℕ) (s t : Ask) where
     path = λ v n k e. near_trans v n c i d (p v n k) (near_trans v n i j.0 d e (near_sym v n d j.0 (q v n k)));
     edge = λ v n k e. near_trans v n i c j.0 (near_sym v n c i (p v n k)) (near_trans v n c d j.0 e (q v n k));
   }
-
-pub way_none : (P : List NodeNo) (c : ℕ) → Way P c c
-way_none P c v n l = near_eq v n c c refl
 
 -- one link further
 pub way_on : (P : List NodeNo) (c i j : ℕ) → i < length P → up P i ≡ j → Way P c i → Way P c j

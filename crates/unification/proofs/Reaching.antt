@@ -18,7 +18,7 @@ use Rattle.terms.proofs.Bitsets.{in_or, or_in}
 use Rattle.terms.proofs.Unfolding.{unfolds}
 use Rattle.unification.specs.Sizes.{size}
 use Rattle.unification.specs.Bindings.{variable_at, node_at, val, Instance}
-use Rattle.unification.specs.Reaching.{Passes, Widened, Apart, Start, Inside}
+use Rattle.unification.specs.Reaching.{Passes, Widened, Start, Inside}
 use Rattle.unification.specs.declared.binding.Binding.{Binding}
 
 -- the first k bindings were looked through: s has become s'
@@ -27,9 +27,6 @@ pub record Looked (ns : List Node) (B : List Binding) (s s' k : ℕ) : Type 0 wh
   pub leads : (j : ℕ) → j < k → In (variable_at B j) s → (y : ℕ) → Occurs y (term ns (node_at B j)) → In y s'
   pub only : (p : ℕ → Bool) → Passes ns B p → ((y : ℕ) → In y s → T (p y)) → (y : ℕ) → In y s' → T (p y)
   pub larger : s ≤ s'
-
-pub looked_none : (ns : List Node) (B : List Binding) (s : ℕ) → Looked ns B s s 0
-looked_none ns B s = record { grows = λ y i. i; leads = λ j h. absurd (omega arith); only = λ p q h y i. h y i; larger = omega arith }
 
 -- a binding whose variable is not in the set so far
 pub looked_past : (ns : List Node) (B : List Binding) (s s' k : ℕ) → (In (variable_at B k) s' → ⊥) → Looked ns B s s' k → Looked ns B s s' (k + 1)
@@ -72,9 +69,6 @@ pub record Spread (ns : List Node) (B : List Binding) (a s : ℕ) : Type 0 where
 abbrev pub OfNode : List Node → ℕ → ℕ → Type 0
 OfNode ns n a = (y : ℕ) → (In y a → Occurs y (term ns n)) × (Occurs y (term ns n) → In y a)
 
-pub spread_none : (ns : List Node) (B : List Binding) (a : ℕ) → Spread ns B a a
-spread_none ns B a = record { starts = λ y i. i; only = λ p q h y i. h y i }
-
 pub spread_on : (ns : List Node) (B : List Binding) (a s s' : ℕ) → Widened ns B s s' → Spread ns B a s → Spread ns B a s'
 spread_on ns B a s s' w r = record { starts = λ y i. w.grows y (r.starts y i); only = λ p q h y i. w.only p q (λ z j. r.only p q h z j) y i }
 
@@ -85,14 +79,6 @@ larger ns B s s' w n =
       | yes l ↦ l
       | no l ↦ let e : s' ≡ s = let g = w.larger in omega arith in absurd (n (λ y i. subst (In y) e i))
     ]
-
-pub spread_apart : (ns : List Node) (B : List Binding) (x n a s s' : ℕ) → OfNode ns n a → Spread ns B a s → (In x s → ⊥) → Widened ns B s s' → ((y : ℕ) → In y s' → In y s) → Apart ns B x n
-spread_apart ns B x n a s s' h r out w back = record {
-  set = s;
-  starts = λ y o. r.starts y ((h y).1 o);
-  leads = λ k h i y o. back y (w.leads k h i y o);
-  away = out;
-}
 
 -- a variable's value is no larger than that of a term in which it occurs
 part_size : (θ : ℕ → Term) (t : Term) (y : ℕ) → Occurs y t → size (θ y) ≤ size (inst θ t)

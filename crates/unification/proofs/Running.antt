@@ -6,37 +6,17 @@ use Prim.Native.Nat.{ℕ, ◌<◌}
 use native.Mathlib.Omega.{arith}
 use lib.Dec.{T}
 use lib.ListN.{length, length-append}
-use lib.Seq.{take-length}
+use Rattle.std.proofs.lemmas.Bool.{true≢false}
 use Rattle.terms.specs.declared.number.NodeNo.{NodeNo}
 use Rattle.terms.specs.declared.node.Node.{Node}
-use Rattle.unification.specs.Bindings.{Good}
-use Rattle.unification.specs.Classes.{Own, Move, Never}
-use Rattle.unification.specs.Steps.{Room, effort, Stepped, Running, Matched}
+use Rattle.unification.specs.Classes.{Move, Never}
+use Rattle.unification.specs.Steps.{Room, Stepped, Running, Matched}
 use Rattle.unification.specs.declared.binding.Binding.{Binding}
 use Rattle.unification.specs.declared.ask.Ask.{Ask}
-use Rattle.unification.proofs.Moves.{ask, move_refl, move_trans, solved, unsolvable, each_last, each_front}
-use Rattle.unification.proofs.Counting.{heads_le}
-use Rattle.unification.proofs.Stepping.{wrong}
-
-pub running_starts : (ns : List Node) (B : List Binding) (a b : ℕ) (P : List NodeNo) (W : List Ask) → ∥ Good ns B ∥₁ → a < length ns → b < length ns → length P ≡ length ns → Own P → W ≡ ask a b ∷ [] → Running ns B W B P W
-running_starts ns B a b P W g ha hb fits own w = record {
-  first = P;
-  own = own;
-  move = move_refl ns B P W;
-  good = g;
-  front = take-length B;
-  longer = omega arith;
-  fits = fits;
-  lower = λ k h. let e = own k h in omega arith;
-  room = subst (Room ns) (sym w) ((ha, hb), tt);
-  tall = let h = heads_le 0 P in omega (arith, ap length w);
-}
+use Rattle.unification.proofs.Moves.{ask, move_trans, solved, unsolvable, each_front}
 
 abbrev InRange : List Node → Ask → Type 0
 InRange ns w = (w.left.0 < length ns) × (w.right.0 < length ns)
-
-pub running_room : (ns : List Node) (B : List Binding) (F : List Ask) (B' : List Binding) (P : List NodeNo) (W₀ W : List Ask) (w : Ask) → W₀ ≡ W ++ (w ∷ []) → Running ns B F B' P W₀ → (w.left.0 < length ns) × (w.right.0 < length ns)
-running_room ns B F B' P W₀ W w e r = each_last (InRange ns) W w (subst (Room ns) e r.room)
 
 module _ (ns : List Node) (B : List Binding) (F : List Ask) (B' B'' : List Binding) (P P' : List NodeNo) (W₀ W W' : List Ask) (w : Ask) (answer : Bool) where
   pub running_on : Stepped ns B' P W w B'' P' W' answer → W₀ ≡ W ++ (w ∷ []) → answer ≡ true → Running ns B F B' P W₀ → Running ns B F B'' P' W'
@@ -55,9 +35,6 @@ module _ (ns : List Node) (B : List Binding) (F : List Ask) (B' B'' : List Bindi
         room = s.room (each_front (InRange ns) W w (subst (Room ns) v r.room));
       }
 
-  pub running_less : Stepped ns B' P W w B'' P' W' answer → W₀ ≡ W ++ (w ∷ []) → effort P' W' < effort P W₀
-  running_less s v = let x = s.less in omega (arith, ap length v, length-append W (w ∷ []))
-
   pub running_stops : (a b : ℕ) → F ≡ ask a b ∷ [] → Stepped ns B' P W w B'' P' W' answer → W₀ ≡ W ++ (w ∷ []) → answer ≡ false → Running ns B F B' P W₀ → Matched ns B a b B'' false
   running_stops a b f s v no_more r =
       let never : Never ns B' P W₀ = subst (Never ns B' P) (sym v) (s.stops no_more) in
@@ -75,7 +52,7 @@ running_ends ns B F a b B' P W f e r =
     let m : Move ns B r.first (ask a b ∷ []) B' P [] = subst (λ (V : List Ask). Move ns B r.first V B' P []) f (subst (λ (V : List Ask). Move ns B r.first F B' P V) e r.move) in
     record {
       solved = λ t. solved ns B B' r.first P a b m r.own;
-      none = λ f. wrong f;
+      none = λ f. absurd (true≢false f);
       good = r.good;
       front = r.front;
       longer = r.longer;

@@ -8,6 +8,7 @@ use native.Mathlib.Decide.{ℕ_discrete}
 use native.Mathlib.Omega.{arith}
 use lib.ListN.{length, set, take, length-set, length-append}
 use lib.Seq.{take-append-le}
+use Rattle.std.proofs.lemmas.Bool.{true≢false}
 use Rattle.terms.specs.Terms.{Term, pair, seal}
 use Rattle.terms.specs.Nodes.{node, Below, Ordered}
 use Rattle.terms.specs.declared.number.NodeNo.{NodeNo}
@@ -29,14 +30,11 @@ use Rattle.unification.proofs.Ranking.{good_snoc, instance_old, instance_new, in
 use Rattle.unification.proofs.Moves.{each_snoc, each_last, up_same, up_other, move_solve, move_join}
 use Rattle.unification.proofs.Counting.{heads_set}
 
-pub wrong : {A : Type 0} → true ≡ false → A
-wrong e = absurd (grind arith)
-
 pub assigned : (ns : List Node) (B B' : List Binding) (x n : ℕ) → ∥ Good ns B ∥₁ → n < length ns → Unbound B x → Start ns B x n → Apart ns B x n → B' ≡ with_binding B x n → Assigned ns B x n B' true
 assigned ns B B' x n g h u st a e = record {
   good = subst (λ (C : List Binding). ∥ Good ns C ∥₁) (sym e) (∥∥₁_map g (λ k. good_snoc ns B x n a h k u st));
   puts = λ t. e;
-  stays = λ f. wrong f;
+  stays = λ f. absurd (true≢false f);
 }
 
 pub refused : (ns : List Node) (B : List Binding) (x n : ℕ) → ∥ Good ns B ∥₁ → Inside ns B x n → Assigned ns B x n B false
@@ -61,7 +59,7 @@ module _ (ns : List Node) (ordered : Ordered ns) (B : List Binding) (P : List No
     goes = λ t. move_solve ns B B P W w (λ θ i. i)
         (λ θ n i l. near_eq (val ns θ) n w.left.0 w.right.0 (to-c.same θ i ∙ val_law ns ordered θ c to-c.within ∙ tells θ (val ns θ) ∙ sym (val_law ns ordered θ d to-d.within) ∙ sym (to-d.same θ i)))
         (λ θ i e. i);
-    stops = λ f. wrong f;
+    stops = λ f. absurd (true≢false f);
     good = good;
     front = λ n h. refl;
     longer = omega arith;
@@ -107,7 +105,7 @@ module _ (ns : List Node) (ordered : Ordered ns) (B : List Binding) (P : List No
       let b : Binding = record { variable = record { 0 = x }; node = record { 0 = m } } in
       record {
         goes = λ t. bound_move B' x m (a.puts tt) there back;
-        stops = λ f. wrong f;
+        stops = λ f. absurd (true≢false f);
         good = a.good;
         front = λ n h. ap (take n) (a.puts tt) ∙ take-append-le n B (b ∷ []) h;
         longer = omega (arith, ap length (a.puts tt), length-append B (b ∷ []));
@@ -145,7 +143,7 @@ module _ (ns : List Node) (ordered : Ordered ns) (B : List Binding) (P : List No
     goes = λ t. move_solve ns B B P W w (λ θ i. i)
         (λ θ n i l q. to-c.same θ i ∙ k.near (val ns θ) n l (subst (λ (x : Term). (size x < n) ⊎ (size (val ns θ d) < n)) (to-c.same θ i) (subst (λ (x : Term). (size (val ns θ w.left.0) < n) ⊎ (size x < n)) (to-d.same θ i) q)) ∙ sym (to-d.same θ i))
         (λ θ i e. i);
-    stops = λ f. wrong f;
+    stops = λ f. absurd (true≢false f);
     good = good;
     front = λ n h. refl;
     longer = omega arith;
@@ -186,7 +184,7 @@ module _ (ns : List Node) (ordered : Ordered ns) (B : List Binding) (P : List No
       let fits : Ask → Type 0 = λ w. (w.left.0 < length ns) × (w.right.0 < length ns) in
       subst (λ (Q : List NodeNo). Stepped ns B P W w B Q W' true) (sym u.table) (subst (λ (V : List Ask). Stepped ns B P W w B (set P u.hi u.lo) V true) (sym u.work) (record {
         goes = λ _. move_join ns B P W w s t c d u.hi u.lo u.within u.root to-c.same to-d.same u.path u.edge h.0 h.1;
-        stops = λ f. wrong f;
+        stops = λ f. absurd (true≢false f);
         good = good;
         front = λ n h. refl;
         longer = omega arith;

@@ -6,6 +6,10 @@ use native.Mathlib.Decide.{ℕ_discrete, dec_lt}
 use native.Mathlib.Omega.{arith}
 use lib.ListN.{length, set, length-set, length-append, get_or-append}
 use lib.Seq.{get_or-append_seam}
+use Rattle.std.specs.Prelude.{map}
+use Rattle.std.specs.List.{range_with_len}
+use Rattle.std.proofs.lemmas.List.{length-map, get_or-map}
+use Rattle.std.proofs.lemmas.List.FromFn.{length-range_with_len, get_or-range_with_len}
 use Rattle.terms.specs.declared.number.NodeNo.{NodeNo}
 use Rattle.unification.specs.Classes.{up, Own, Lower, Traced}
 use Rattle.unification.proofs.Moves.{up_same, up_other}
@@ -30,12 +34,6 @@ listed_front Q L n all k h = subst Q (up_old L n k h) (all k (omega (arith, leng
 pub listed_last : (Q : ℕ → Type 0) (L : List NodeNo) (n : NodeNo) → ((k : ℕ) → k < length (L ++ (n ∷ [])) → Q (up (L ++ (n ∷ [])) k)) → Q n.0
 listed_last Q L n all = subst Q (up_new L n) (all (length L) (omega (arith, length-append L (n ∷ []))))
 
-pub traced_none : (P : List NodeNo) → Own P → Traced P []
-traced_none P own i h a = own i h
-
-pub traced_own : (P L : List NodeNo) → L ≡ [] → Traced P L → Own P
-traced_own P L e t i h = t i h (λ k l q. absurd (omega (arith, ap length e)))
-
 -- a root was linked, and is listed
 pub traced_link : (P L : List NodeNo) (hi lo : NodeNo) → Traced P L → Traced (set P hi.0 lo) (L ++ (hi ∷ []))
 traced_link P L hi lo t i h a =
@@ -57,10 +55,10 @@ lower_free P n low w i h =
       | no q ↦ let a = up_other P n.0 i n q in let b = low i (omega (arith, length-set P n.0 n)) in omega arith
     ]
 
--- the next node, a class of its own
-pub own_push : (P : List NodeNo) (n : ℕ) → length P ≡ n → Own P → Own (P ++ (record { 0 = n } ∷ []))
-own_push P n e own i h =
-    elim (dec_lt i (length P)) [
-      | yes l ↦ up_old P (record { 0 = n }) i l ∙ own i l
-      | no l ↦ let f : i ≡ length P = omega (arith, length-append P (record { 0 = n } ∷ [])) in ap (up (P ++ (record { 0 = n } ∷ []))) f ∙ up_new P (record { 0 = n }) ∙ omega arith
-    ]
+-- the first numbers, each a class of its own
+pub own_first : (n : ℕ) → Own (map (λ (i : ℕ). record { 0 = i }) (range_with_len 0 n))
+own_first n i h =
+    let first : ℕ → NodeNo = λ i. record { 0 = i } in
+    let l : i < length (range_with_len 0 n) = omega (arith, length-map (range_with_len 0 n) first) in
+    let e = ap (λ (p : NodeNo). p.0) (get_or-map first (range_with_len 0 n) i 0 (record { 0 = 0 }) l) in
+    omega (arith, e, get_or-range_with_len 0 n i 0 (omega (arith, length-range_with_len 0 n)))

@@ -1,7 +1,6 @@
 -- What two nodes ask of each other.
 use Rattle.std.specs.Prelude.{◌≡◌, ◌⊎◌, ℕ}
 use Rattle.terms.specs.Terms.{Term}
-use Rattle.terms.specs.declared.number.NodeNo.{NodeNo}
 use Rattle.terms.specs.declared.node.Node.{Node}
 use Rattle.terms.specs.declared.node.Node.TheVariants.{Var, Pair, Seal}
 use Rattle.unification.specs.Bindings.{reads}
@@ -15,7 +14,3 @@ Tells m n Clash = (θ v : ℕ → Term) → reads θ v m ≡ reads θ v n → �
 Tells m n (Left x) = (m ≡ Var x) × (n ≡ Var x → ⊥)
 Tells m n (Right y) = (n ≡ Var y) × (m ≡ Var y → ⊥)
 Tells m n (Parts s t) = ((m ≡ Pair s.left t.left) × (n ≡ Pair s.right t.right)) ⊎ ((m ≡ Seal s.left t.left) × (n ≡ Seal s.right t.right))
-
--- two pairs of parts: l with m, and r with s
-abbrev pub both : NodeNo → NodeNo → NodeNo → NodeNo → Compared
-both l m r s = Parts (record { left = l; right = m }) (record { left = r; right = s })

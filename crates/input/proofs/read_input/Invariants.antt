@@ -1,8 +1,8 @@
-use Rattle.std.proofs.Common.{◌-◌, ◌≤◌, length}
+use Rattle.std.proofs.Common.{◌≤◌, length}
 use Rattle.input.proofs.read_input.Given as goal
 
-abbrev pub invariant-loop-n : goal.invariant-loop-n
-invariant-loop-n l = l.n ≤ length l.buf
+abbrev pub invariant-loop-input : goal.invariant-loop-input
+invariant-loop-input l = length l.rest ≤ l.room
 
-abbrev pub decreases-loop-n : goal.decreases-loop-n
-decreases-loop-n l = length l.initial.buf - l.n
+abbrev pub decreases-loop-input : goal.decreases-loop-input
+decreases-loop-input l = length l.rest

@@ -1,21 +1,29 @@
 // Shared nodes: terms with more leaves than can be counted are matched at once.
+ghost use Rattle.std.specs.Prelude.{◌≤◌};
+
 use crate::tests::support::*;
+use matching::Matching;
 use std::test::Fail;
-use terms::{NodeNo, NodeTable};
+use terms::{Node, NodeFault, NodeNo, NodeTable};
+
+// A tower of 255 pairs over a leaf, the first of them the node with this number: each pair is of the node before with itself.
+fn tower(table: &mut NodeTable, leaf: Node, first: u16) -> Result<(), NodeFault>
+    requires { first ≤ 256 }
+{
+    table.push(leaf)?;
+    for i in first..first + 255 {
+        table.push(pair(i, i))?;
+    }
+    Ok(())
+}
 
 #[test]
 fn towers(rt: HostRuntime) -> Result<(), Fail> {
     // two towers of 255 pairs over x and over n: each has 2 ^ 255 leaves
     let mut table = NodeTable::new(rt.alloc());
-    add(&mut table, var(0))?;
-    for i in 0..255u16 {
-        add(&mut table, pair(i, i))?;
-    }
-    add(&mut table, name(0))?;
-    for i in 256..511u16 {
-        add(&mut table, pair(i, i))?;
-    }
-    let mut m = over(rt.alloc(), table)?;
+    tower(&mut table, var(0), 0)?;
+    tower(&mut table, name(0), 256)?;
+    let mut m = Matching::over(rt.alloc(), table)?;
     rows(
         &rt,
         &mut m,
@@ -32,15 +40,9 @@ fn towers(rt: HostRuntime) -> Result<(), Fail> {
 fn towers_of_variables(rt: HostRuntime) -> Result<(), Fail> {
     // x with the tower over y, then y with the tower over x: the occurs check sees through 2 ^ 255 leaves
     let mut table = NodeTable::new(rt.alloc());
-    add(&mut table, var(0))?;
-    for i in 0..255u16 {
-        add(&mut table, pair(i, i))?;
-    }
-    add(&mut table, var(1))?;
-    for i in 256..511u16 {
-        add(&mut table, pair(i, i))?;
-    }
-    let mut m = over(rt.alloc(), table)?;
+    tower(&mut table, var(0), 0)?;
+    tower(&mut table, var(1), 256)?;
+    let mut m = Matching::over(rt.alloc(), table)?;
     rows(
         &rt,
         &mut m,
@@ -57,15 +59,15 @@ fn doubling_chain(rt: HostRuntime) -> Result<(), Fail> {
     // x1 is (x0, x0), x2 is (x1, x1) and so on, and the same of y: the values of x31 and y31 have 2 ^ 31 leaves each
     let mut table = NodeTable::new(rt.alloc());
     for x in 0..64u16 {
-        add(&mut table, var(x))?;
+        table.push(var(x))?;
     }
     for x in 0..64u16 {
-        add(&mut table, pair(x, x))?;
+        table.push(pair(x, x))?;
     }
-    let mut m = over(rt.alloc(), table)?;
+    let mut m = Matching::over(rt.alloc(), table)?;
     for x in 0..31u16 {
-        assert_eq!(rt; answer(m.matches(NodeNo(x + 1), NodeNo(x + 64)))?, true);
-        assert_eq!(rt; answer(m.matches(NodeNo(x + 33), NodeNo(x + 96)))?, true);
+        assert_eq!(rt; m.matches(NodeNo(x + 1), NodeNo(x + 64))?, true);
+        assert_eq!(rt; m.matches(NodeNo(x + 33), NodeNo(x + 96))?, true);
     }
     // the two chains, from their ends: only x0 and y0 are left to bind
     rows(

@@ -103,12 +103,7 @@ fn chain_of_variables(rt: HostRuntime) -> Result<(), Fail> {
 fn oldest_binding_first(rt: HostRuntime) -> Result<(), Fail> {
     let mut m = opened(rt.alloc(), &[var(7), var(3), name(0), name(1)])?;
     rows(&rt, &mut m, &[Row(0, 2, true, 1), Row(3, 1, true, 2)])?;
-    let b = m.bindings();
-    assert!(rt; b.len() == 2);
-    assert_eq!(rt; b[0].variable.0, 7);
-    assert_eq!(rt; b[0].node.0, 2);
-    assert_eq!(rt; b[1].variable.0, 3);
-    assert_eq!(rt; b[1].node.0, 3);
+    assert_eq!(rt; m.bindings(), [binding(7, 2), binding(3, 3)].as_slice());
     Ok(())
 }
 
@@ -116,9 +111,10 @@ fn oldest_binding_first(rt: HostRuntime) -> Result<(), Fail> {
 fn no_such_node(rt: HostRuntime) -> Result<(), Fail> {
     let mut m = opened(rt.alloc(), &[var(0), name(0)])?;
     rows(&rt, &mut m, &[Row(0, 1, true, 1)])?;
-    assert!(rt; m.matches(NodeNo(2), NodeNo(0)).is_err());
-    assert!(rt; m.matches(NodeNo(0), NodeNo(2)).is_err());
-    assert!(rt; m.matches(NodeNo(65535), NodeNo(65535)).is_err());
+    let none = Err(MatchFault::NoSuchNode);
+    assert_eq!(rt; m.matches(NodeNo(2), NodeNo(0)), none);
+    assert_eq!(rt; m.matches(NodeNo(0), NodeNo(2)), none);
+    assert_eq!(rt; m.matches(NodeNo(65535), NodeNo(65535)), none);
     assert_eq!(rt; MatchFault::NoSuchNode.number(), 50);
     assert_eq!(rt; m.bindings().len(), 1);
     Ok(())
@@ -129,6 +125,9 @@ fn nodes_of_a_sheet(rt: HostRuntime) -> Result<(), Fail> {
     let sheet = Sheet::new(rt.alloc())?;
     let mut m = Matching::open(rt.alloc(), &sheet)?;
     rows(&rt, &mut m, &[Row(0, 0, true, 0)])?;
-    assert!(rt; m.matches(NodeNo(0), NodeNo(1)).is_err());
+    assert_eq!(rt;
+        m.matches(NodeNo(0), NodeNo(1)),
+        Err(MatchFault::NoSuchNode)
+    );
     Ok(())
 }

@@ -1,10 +1,12 @@
 // Tables, and what is expected of a match.
-use matching::{MatchFault, Matching};
+use matching::{Binding, Matching};
 use std::alloc::Global;
 use std::process::Abort;
 use std::test::Fail;
 use terms::{LocalName, Node, NodeNo, NodeTable, Variable};
+use unification::Ask;
 
+// Nodes by their numbers: of use to tests alone, so each crate of tests has its own.
 pub(crate) fn name(n: u16) -> Node {
     Node::Name(LocalName(n))
 }
@@ -27,17 +29,17 @@ pub(crate) fn seal(body: u16, key: u16) -> Node {
     }
 }
 
-pub(crate) fn add(table: &mut NodeTable, node: Node) -> Result<(), Fail> {
-    match table.push(node) {
-        Ok(()) => Ok(()),
-        Err(_) => Err(Fail::new("a node is refused")),
+pub(crate) fn binding(x: u16, n: u16) -> Binding {
+    Binding {
+        variable: Variable(x),
+        node: NodeNo(n),
     }
 }
 
-pub(crate) fn over(heap: Global, table: NodeTable) -> Result<Matching, Fail> {
-    match Matching::over(heap, table) {
-        Ok(m) => Ok(m),
-        Err(_) => Err(Fail::new("the table is refused")),
+pub(crate) fn ask(left: u16, right: u16) -> Ask {
+    Ask {
+        left: NodeNo(left),
+        right: NodeNo(right),
     }
 }
 
@@ -45,16 +47,9 @@ pub(crate) fn over(heap: Global, table: NodeTable) -> Result<Matching, Fail> {
 pub(crate) fn opened(heap: Global, nodes: &[Node]) -> Result<Matching, Fail> {
     let mut table = NodeTable::new(heap);
     for n in nodes {
-        add(&mut table, *n)?;
+        table.push(*n)?;
     }
-    over(heap, table)
-}
-
-pub(crate) fn answer(r: Result<bool, MatchFault>) -> Result<bool, Fail> {
-    match r {
-        Ok(yes) => Ok(yes),
-        Err(_) => Err(Fail::new("a number is no node's")),
-    }
+    Ok(Matching::over(heap, table)?)
 }
 
 // a, b, the answer to their match, and how many bindings there are then
@@ -64,21 +59,8 @@ pub(crate) struct Row(pub u16, pub u16, pub bool, pub usize);
 // These matches one after another.
 pub(crate) fn rows(rt: &impl Abort, m: &mut Matching, rows: &[Row]) -> Result<(), Fail> {
     for r in rows {
-        expect(rt, m, r.0, r.1, r.2, r.3)?;
+        assert_eq!(rt; m.matches(NodeNo(r.0), NodeNo(r.1))?, r.2);
+        assert_eq!(rt; m.bindings().len(), r.3);
     }
-    Ok(())
-}
-
-// A match of a and b answers so, and then there are so many bindings.
-fn expect(
-    rt: &impl Abort,
-    m: &mut Matching,
-    a: u16,
-    b: u16,
-    yes: bool,
-    bindings: usize,
-) -> Result<(), Fail> {
-    assert_eq!(rt; answer(m.matches(NodeNo(a), NodeNo(b)))?, yes);
-    assert_eq!(rt; m.bindings().len(), bindings);
     Ok(())
 }

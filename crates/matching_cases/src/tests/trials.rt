@@ -1,9 +1,8 @@
 // Trials: what they bind is undone, whichever way they end.
 use crate::tests::support::*;
-use matching::{Matching, Trial, all_match, already_equal};
+use matching::{MatchFault, Matching, Trial, all_match, already_equal};
 use std::test::Fail;
 use terms::NodeNo;
-use unification::Ask;
 
 // n, k, x, y, (x, y), (n, k), (y, n)
 fn start(rt: &HostRuntime) -> Result<Matching, Fail> {
@@ -27,9 +26,9 @@ fn undone_at_the_end(rt: HostRuntime) -> Result<(), Fail> {
     rows(&rt, &mut m, &[Row(2, 0, true, 1)])?;
     {
         let mut t = Trial::of(&mut m);
-        assert_eq!(rt; answer(t.matches(NodeNo(4), NodeNo(5)))?, true);
+        assert_eq!(rt; t.matches(NodeNo(4), NodeNo(5))?, true);
         assert_eq!(rt; t.bindings().len(), 2);
-        assert_eq!(rt; answer(t.matches(NodeNo(3), NodeNo(0)))?, false);
+        assert_eq!(rt; t.matches(NodeNo(3), NodeNo(0))?, false);
     }
     assert_eq!(rt; m.bindings().len(), 1);
     rows(&rt, &mut m, &[Row(3, 0, true, 2)])
@@ -40,14 +39,14 @@ fn inside_another(rt: HostRuntime) -> Result<(), Fail> {
     let mut m = start(&rt)?;
     {
         let mut t = Trial::of(&mut m);
-        assert_eq!(rt; answer(t.matches(NodeNo(2), NodeNo(0)))?, true);
+        assert_eq!(rt; t.matches(NodeNo(2), NodeNo(0))?, true);
         {
             let mut u = Trial::of(&mut *t.matching);
-            assert_eq!(rt; answer(u.matches(NodeNo(3), NodeNo(1)))?, true);
+            assert_eq!(rt; u.matches(NodeNo(3), NodeNo(1))?, true);
             assert_eq!(rt; u.bindings().len(), 2);
         }
         assert_eq!(rt; t.bindings().len(), 1);
-        assert_eq!(rt; answer(t.matches(NodeNo(3), NodeNo(0)))?, true);
+        assert_eq!(rt; t.matches(NodeNo(3), NodeNo(0))?, true);
     }
     assert_eq!(rt; m.bindings().len(), 0);
     Ok(())
@@ -56,10 +55,10 @@ fn inside_another(rt: HostRuntime) -> Result<(), Fail> {
 // Returns in the middle of a trial: at a refusal by the question mark, at a no by return.
 fn tried(m: &mut Matching, a: u16, b: u16) -> Result<usize, Fail> {
     let mut t = Trial::of(m);
-    if !answer(t.matches(NodeNo(2), NodeNo(0)))? {
+    if !t.matches(NodeNo(2), NodeNo(0))? {
         return Ok(0);
     }
-    if !answer(t.matches(NodeNo(a), NodeNo(b)))? {
+    if !t.matches(NodeNo(a), NodeNo(b))? {
         return Ok(1);
     }
     Ok(t.bindings().len())
@@ -73,21 +72,8 @@ fn early_returns(rt: HostRuntime) -> Result<(), Fail> {
     assert_eq!(rt; tried(&mut m, 2, 1)?, 1);
     assert_eq!(rt; m.bindings().len(), 0);
     assert_eq!(rt;
-        all_match(
-            &mut m,
-            &[
-                Ask {
-                    left: NodeNo(2),
-                    right: NodeNo(0),
-                },
-                Ask {
-                    left: NodeNo(9),
-                    right: NodeNo(0),
-                },
-            ],
-        )
-        .is_err(),
-        true
+        all_match(&mut m, &[ask(2, 0), ask(9, 0)]),
+        Err(MatchFault::NoSuchNode)
     );
     assert_eq!(rt; m.bindings().len(), 0);
     Ok(())
@@ -96,29 +82,11 @@ fn early_returns(rt: HostRuntime) -> Result<(), Fail> {
 #[test]
 fn rows_of_pairs(rt: HostRuntime) -> Result<(), Fail> {
     let mut m = start(&rt)?;
-    let both = [
-        Ask {
-            left: NodeNo(4),
-            right: NodeNo(5),
-        },
-        Ask {
-            left: NodeNo(2),
-            right: NodeNo(0),
-        },
-    ];
-    assert_eq!(rt; answer(all_match(&mut m, &both))?, true);
-    let clash = [
-        Ask {
-            left: NodeNo(4),
-            right: NodeNo(5),
-        },
-        Ask {
-            left: NodeNo(4),
-            right: NodeNo(6),
-        },
-    ];
-    assert_eq!(rt; answer(all_match(&mut m, &clash))?, false);
-    assert_eq!(rt; answer(all_match(&mut m, &[]))?, true);
+    let both = [ask(4, 5), ask(2, 0)];
+    assert_eq!(rt; all_match(&mut m, &both)?, true);
+    let clash = [ask(4, 5), ask(4, 6)];
+    assert_eq!(rt; all_match(&mut m, &clash)?, false);
+    assert_eq!(rt; all_match(&mut m, &[])?, true);
     assert_eq!(rt; m.bindings().len(), 0);
     Ok(())
 }
@@ -126,13 +94,16 @@ fn rows_of_pairs(rt: HostRuntime) -> Result<(), Fail> {
 #[test]
 fn equal_already(rt: HostRuntime) -> Result<(), Fail> {
     let mut m = start(&rt)?;
-    assert_eq!(rt; answer(already_equal(&mut m, NodeNo(4), NodeNo(5)))?, false);
+    assert_eq!(rt; already_equal(&mut m, NodeNo(4), NodeNo(5))?, false);
     assert_eq!(rt; m.bindings().len(), 0);
     rows(&rt, &mut m, &[Row(4, 5, true, 2)])?;
-    assert_eq!(rt; answer(already_equal(&mut m, NodeNo(4), NodeNo(5)))?, true);
-    assert_eq!(rt; answer(already_equal(&mut m, NodeNo(2), NodeNo(0)))?, true);
-    assert_eq!(rt; answer(already_equal(&mut m, NodeNo(2), NodeNo(1)))?, false);
-    assert!(rt; already_equal(&mut m, NodeNo(2), NodeNo(7)).is_err());
+    assert_eq!(rt; already_equal(&mut m, NodeNo(4), NodeNo(5))?, true);
+    assert_eq!(rt; already_equal(&mut m, NodeNo(2), NodeNo(0))?, true);
+    assert_eq!(rt; already_equal(&mut m, NodeNo(2), NodeNo(1))?, false);
+    assert_eq!(rt;
+        already_equal(&mut m, NodeNo(2), NodeNo(7)),
+        Err(MatchFault::NoSuchNode)
+    );
     assert_eq!(rt; m.bindings().len(), 2);
     Ok(())
 }

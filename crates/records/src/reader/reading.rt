@@ -1,10 +1,23 @@
 // What the reader does.
-ghost use Rattle.std.specs.Prelude.{◌≡◌, ℕ, ◌+◌, length};
-ghost use Rattle.records.specs.Reading.{rest, Next, Scanned, OneScan};
+ghost use Rattle.std.specs.Prelude.{◌≡◌, ℕ, List, ◌++◌, MatchOption};
+ghost use Rattle.records.specs.Bytes.{Rec, encode};
+ghost use Rattle.records.specs.Reading.{rest, rec_of, Next, Scanned, OneScan};
 
-use crate::body::word_at;
 use crate::reader::Records;
 use crate::record::{FileFault, Record};
+
+// The record at the front of the bytes, and the bytes after it; none where no whole record stands there.
+#[tactic(auto, using(crate::proofs::Fronts::front_whole))]
+fn front<'a>(bytes: &'a [u8]) -> Option<(Record<'a>, &'a [u8])>
+    ensures { MatchOption result ((r : Rec) (more : List ℕ) → ¬ (bytes.now ≡ encode r ++ more)) (λ p. bytes.now ≡ encode (rec_of p.0) ++ p.1.now) }
+{
+    let (head, tail) = bytes.split_first_chunk::<4>()?;
+    let [low, high, kind_low, kind_high] = *head;
+    let len = u16::from_le_bytes([low, high]) as usize;
+    let kind = u16::from_le_bytes([kind_low, kind_high]);
+    let (body, after) = tail.split_at_checked(len)?;
+    Some((Record { kind, body }, after))
+}
 
 impl<'a> Records<'a> {
     pub fn new(bytes: &'a [u8]) -> Records<'a>
@@ -12,8 +25,7 @@ impl<'a> Records<'a> {
         ensures count { result.count ≡ 0 }
     {
         Records {
-            bytes,
-            at: 0,
+            rest: bytes,
             count: 0,
         }
     }
@@ -22,23 +34,15 @@ impl<'a> Records<'a> {
     pub fn next(&mut self) -> Result<Option<Record<'a>>, FileFault>
         ensures { Next (rest self.old) self.old.count result (rest self.new) self.new.count }
     {
-        let left = self.bytes.len() - self.at;
-        if left == 0 {
+        if self.rest.is_empty() {
             return Ok(None);
         }
-        if left < 4 {
+        let Some((found, after)) = front(self.rest) else {
             return Err(FileFault::Cut(self.count));
-        }
-        let len = word_at(self.bytes, self.at) as usize;
-        let kind = word_at(self.bytes, self.at + 2);
-        if left - 4 < len {
-            return Err(FileFault::Cut(self.count));
-        }
-        let start = self.at + 4;
-        let body = &self.bytes[start..start + len];
-        self.at = start + len;
+        };
+        self.rest = after;
         self.count += 1;
-        Ok(Some(Record { kind, body }))
+        Ok(Some(found))
     }
 }
 

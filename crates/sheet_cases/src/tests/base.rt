@@ -125,11 +125,11 @@ impl Place {
             Place::Strand => write_strand(&mut file)?,
             Place::Input => {
                 write_strand(&mut file)?;
-                file.step(INPUT, 0, 0)?;
+                file.entry(Step(INPUT, 0, 0))?;
             }
             Place::End => {
                 write_strand(&mut file)?;
-                file.property(NEVER_N)?;
+                file.entry(Property(NEVER_N))?;
             }
         }
         Ok(file)
@@ -143,5 +143,5 @@ fn write_nodes(file: &mut SheetFile) -> Result<(), AllocError> {
 
 fn write_strand(file: &mut SheetFile) -> Result<(), AllocError> {
     write_nodes(file)?;
-    file.strand()
+    file.entry(Strand)
 }

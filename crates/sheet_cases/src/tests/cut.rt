@@ -34,9 +34,11 @@ const CUT: [Entry<'static>; 16] = [
 
 #[test]
 fn at_every_place_of_the_order(rt: HostRuntime) -> Result<(), Fail> {
-    expect_each(
-        &rt,
-        rt.alloc(),
+    let t = Tester {
+        rt: &rt,
+        heap: rt.alloc(),
+    };
+    t.expect_each(
         &[Place::Start, Place::Texts, Place::Strand, Place::End],
         &CUT,
         1,
@@ -58,7 +60,7 @@ fn reply_when_cut_at(len: usize) -> Reply {
         25..=33 => refused(1, 4),
         34 => refused(9, 5),
         35..=49 => refused(1, 5),
-        _ => Reply::Taken,
+        _ => Ok(()),
     }
 }
 
@@ -76,10 +78,11 @@ fn at_every_byte(rt: HostRuntime) -> Result<(), Fail> {
 #[test]
 fn at_a_long_body(rt: HostRuntime) -> Result<(), Fail> {
     let heap = rt.alloc();
+    let t = Tester { rt: &rt, heap };
     let mut file = SheetFile::new(heap);
     file.raw(&[0, 1, 1, 0])?;
     file.raw(&[97; 255])?;
-    expect(&rt, heap, &file, refused(1, 0))?;
+    t.expect(&file, refused(1, 0))?;
     file.raw(&[97])?;
-    expect(&rt, heap, &file, refused(4, 0))
+    t.expect(&file, refused(4, 0))
 }

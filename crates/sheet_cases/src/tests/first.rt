@@ -2,7 +2,6 @@
 use crate::entry::Entry;
 use crate::file::SheetFile;
 use crate::kind::*;
-use crate::reply::Reply;
 use crate::tests::support::*;
 use protocol::{Action, Direction, Property, Step, Strand};
 use sheet::{Sheet, Text};
@@ -29,14 +28,12 @@ fn is_text(texts: &[Text], expected: &[u8]) -> bool {
 
 // There is one strand, with one step: an output on label 0 of node 0.
 fn is_output(strands: &[Strand]) -> bool {
+    let output = Step::Output {
+        label: Label(0),
+        node: NodeNo(0),
+    };
     match strands {
-        [strand] => matches!(
-            strand.steps(),
-            [Step::Output {
-                label: Label(0),
-                node: NodeNo(0)
-            }]
-        ),
+        [strand] => strand.steps() == [output].as_slice(),
         _ => false,
     }
 }
@@ -46,51 +43,49 @@ fn expect_first(rt: &impl Abort, sheet: &Sheet) {
     assert!(rt; is_text(sheet.names(), b"n"), "names");
     assert!(rt; sheet.variables().is_empty(), "variables");
     assert!(rt;
-        matches!(sheet.nodes(), [Node::Name(LocalName(0))]),
+        sheet.nodes() == [Node::Name(LocalName(0))].as_slice(),
         "nodes"
     );
     assert!(rt; is_output(sheet.strands()), "strands");
-    let Property { earlier, later } = sheet.property();
-    assert!(rt; earlier.is_none(), "earlier");
-    assert!(rt;
-        matches!(
-            later,
-            Action {
-                direction: Direction::Output,
-                label: Label(0),
-                node: NodeNo(0)
-            }
-        ),
-        "later"
-    );
+    let never = Property {
+        earlier: None,
+        later: Action {
+            direction: Direction::Output,
+            label: Label(0),
+            node: NodeNo(0),
+        },
+    };
+    assert!(rt; sheet.property() == never, "property");
 }
 
 #[test]
 fn is_taken(rt: HostRuntime) -> Result<(), Fail> {
     let heap = rt.alloc();
+    let t = Tester { rt: &rt, heap };
     let mut sheet = Sheet::new(heap)?;
-    expect_into(&rt, heap, &mut sheet, FIRST, Reply::Taken)?;
+    t.expect_into(&mut sheet, FIRST, Ok(()))?;
     expect_first(&rt, &sheet);
-    expect_sheet(&rt, heap, &sheet, FIRST)
+    t.expect_sheet(&sheet, FIRST)
 }
 
 #[test]
 fn is_new(rt: HostRuntime) -> Result<(), Fail> {
     let heap = rt.alloc();
+    let t = Tester { rt: &rt, heap };
     let sheet = Sheet::new(heap)?;
     expect_first(&rt, &sheet);
-    expect_sheet(&rt, heap, &sheet, FIRST)
+    t.expect_sheet(&sheet, FIRST)
 }
 
 #[test]
 fn is_made_of_its_records(rt: HostRuntime) -> Result<(), Fail> {
     let mut file = SheetFile::new(rt.alloc());
-    file.label(b"a")?;
-    file.name(b"n")?;
-    file.node(NAME, 0, 0)?;
-    file.strand()?;
-    file.step(OUTPUT, 0, 0)?;
-    file.property([NONE, 0, 0, OUTPUT, 0, 0])?;
+    file.entry(Entry::Label(b"a"))?;
+    file.entry(Entry::Name(b"n"))?;
+    file.entry(Entry::Node(NAME, 0, 0))?;
+    file.entry(Entry::Strand)?;
+    file.entry(Entry::Step(OUTPUT, 0, 0))?;
+    file.entry(Entry::Property([NONE, 0, 0, OUTPUT, 0, 0]))?;
     assert_eq!(rt; file.as_bytes(), FIRST.as_slice());
     Ok(())
 }
@@ -108,7 +103,8 @@ const MORE: [Case<'static>; 6] = [
 #[test]
 fn is_the_whole_file(rt: HostRuntime) -> Result<(), Fail> {
     let heap = rt.alloc();
+    let t = Tester { rt: &rt, heap };
     let mut file = SheetFile::new(heap);
     file.raw(FIRST)?;
-    expect_cases(&rt, heap, &file, &MORE)
+    t.expect_cases(&file, &MORE, 0)
 }

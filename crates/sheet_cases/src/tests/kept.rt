@@ -3,7 +3,6 @@ use crate::entry::Entry;
 use crate::entry::Entry::*;
 use crate::file::SheetFile;
 use crate::kind::*;
-use crate::reply::Reply;
 use crate::tests::base::*;
 use crate::tests::first::FIRST;
 use crate::tests::support::*;
@@ -53,13 +52,13 @@ const BAD: [Case<'static>; 9] = [
 ];
 
 // Each bad file is refused, and the sheet still says what these bytes say.
-fn expect_kept(rt: &impl Abort, heap: Global, sheet: &mut Sheet, bytes: &[u8]) -> Result<(), Fail> {
-    let texts = Place::Texts.file(heap)?;
+fn expect_kept<R: Abort>(t: &Tester<'_, R>, sheet: &mut Sheet, bytes: &[u8]) -> Result<(), Fail> {
+    let texts = Place::Texts.file(t.heap)?;
     for bad in &BAD {
         let mut file = texts.clone()?;
         file.entries(bad.0)?;
-        expect_into(rt, heap, sheet, file.as_bytes(), refused(bad.1, bad.2))?;
-        expect_sheet(rt, heap, sheet, bytes)?;
+        t.expect_into(sheet, file.as_bytes(), refused(bad.1, bad.2))?;
+        t.expect_sheet(sheet, bytes)?;
     }
     Ok(())
 }
@@ -67,26 +66,29 @@ fn expect_kept(rt: &impl Abort, heap: Global, sheet: &mut Sheet, bytes: &[u8]) -
 #[test]
 fn a_sheet_that_was_read(rt: HostRuntime) -> Result<(), Fail> {
     let heap = rt.alloc();
+    let t = Tester { rt: &rt, heap };
     let file = rich(heap)?;
     let mut sheet = Sheet::new(heap)?;
-    expect_into(&rt, heap, &mut sheet, file.as_bytes(), Reply::Taken)?;
-    expect_sheet(&rt, heap, &sheet, file.as_bytes())?;
-    expect_kept(&rt, heap, &mut sheet, file.as_bytes())
+    t.expect_into(&mut sheet, file.as_bytes(), Ok(()))?;
+    t.expect_sheet(&sheet, file.as_bytes())?;
+    expect_kept(&t, &mut sheet, file.as_bytes())
 }
 
 #[test]
 fn a_new_sheet(rt: HostRuntime) -> Result<(), Fail> {
     let heap = rt.alloc();
+    let t = Tester { rt: &rt, heap };
     let mut sheet = Sheet::new(heap)?;
-    expect_kept(&rt, heap, &mut sheet, FIRST)
+    expect_kept(&t, &mut sheet, FIRST)
 }
 
 #[test]
 fn another_file_takes_its_place(rt: HostRuntime) -> Result<(), Fail> {
     let heap = rt.alloc();
+    let t = Tester { rt: &rt, heap };
     let file = rich(heap)?;
     let mut sheet = Sheet::new(heap)?;
-    expect_into(&rt, heap, &mut sheet, file.as_bytes(), Reply::Taken)?;
-    expect_into(&rt, heap, &mut sheet, FIRST, Reply::Taken)?;
-    expect_sheet(&rt, heap, &sheet, FIRST)
+    t.expect_into(&mut sheet, file.as_bytes(), Ok(()))?;
+    t.expect_into(&mut sheet, FIRST, Ok(()))?;
+    t.expect_sheet(&sheet, FIRST)
 }

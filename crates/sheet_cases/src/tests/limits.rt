@@ -141,19 +141,23 @@ fn fill(file: &mut SheetFile, table: &Table) -> Result<(), AllocError> {
 }
 
 // A full table is taken, and nothing more in it.
-fn expect_table(rt: &impl Abort, heap: Global, table: &Table, i: usize) -> Result<(), Fail> {
-    let mut file = SheetFile::new(heap);
+fn expect_table<R: Abort>(t: &Tester<'_, R>, table: &Table, i: usize) -> Result<(), Fail> {
+    let mut file = SheetFile::new(t.heap);
     file.entries(table.before)?;
     fill(&mut file, table)?;
-    expect_cases_at(rt, heap, &file, table.past, i)?;
+    t.expect_cases(&file, table.past, i)?;
     file.entries(table.after)?;
-    expect_whole_at(rt, heap, &file, i)
+    t.expect_whole(&file, i)
 }
 
 #[test]
 fn each_table(rt: HostRuntime) -> Result<(), Fail> {
+    let t = Tester {
+        rt: &rt,
+        heap: rt.alloc(),
+    };
     for (i, table) in TABLES.iter().enumerate() {
-        expect_table(&rt, rt.alloc(), table, i)?;
+        expect_table(&t, table, i)?;
     }
     Ok(())
 }
@@ -166,7 +170,7 @@ fn fullest(heap: Global) -> Result<SheetFile, AllocError> {
     fill(&mut file, &VARIABLES)?;
     fill(&mut file, &NODES)?;
     for _ in 0..8 {
-        file.strand()?;
+        file.entry(Strand)?;
         fill(&mut file, &STEPS)?;
     }
     Ok(file)
@@ -186,7 +190,8 @@ const FULLEST_BAD: [Case<'static>; 4] = [
 #[test]
 fn all_at_once(rt: HostRuntime) -> Result<(), Fail> {
     let heap = rt.alloc();
+    let t = Tester { rt: &rt, heap };
     let file = fullest(heap)?;
-    expect_taken(&rt, heap, &file, &FULLEST_GOOD, &[])?;
-    expect_cases(&rt, heap, &file, &FULLEST_BAD)
+    t.expect_taken(&file, &FULLEST_GOOD, &[])?;
+    t.expect_cases(&file, &FULLEST_BAD, 0)
 }

@@ -45,7 +45,11 @@ const BAD: [Entry<'static>; 25] = [
 
 #[test]
 fn bad_nodes(rt: HostRuntime) -> Result<(), Fail> {
-    expect_each(&rt, rt.alloc(), &[Place::Nodes], &BAD, 5)
+    let t = Tester {
+        rt: &rt,
+        heap: rt.alloc(),
+    };
+    t.expect_each(&[Place::Nodes], &BAD, 5)
 }
 
 // the first node has none to refer to, not even itself
@@ -53,7 +57,11 @@ const SELF: [Entry<'static>; 2] = [Node(PAIR, 0, 0), Node(SEAL, 0, 0)];
 
 #[test]
 fn no_node_of_itself(rt: HostRuntime) -> Result<(), Fail> {
-    expect_each(&rt, rt.alloc(), &[Place::Texts], &SELF, 5)
+    let t = Tester {
+        rt: &rt,
+        heap: rt.alloc(),
+    };
+    t.expect_each(&[Place::Texts], &SELF, 5)
 }
 
 // where nothing is declared
@@ -67,7 +75,8 @@ const UNDECLARED: [Case<'static>; 4] = [
 #[test]
 fn undeclared(rt: HostRuntime) -> Result<(), Fail> {
     let heap = rt.alloc();
-    expect_cases(&rt, heap, &SheetFile::new(heap), &UNDECLARED)
+    let t = Tester { rt: &rt, heap };
+    t.expect_cases(&SheetFile::new(heap), &UNDECLARED, 0)
 }
 
 // the last name and variable, the latest node, and keys that are names and variables
@@ -83,9 +92,8 @@ const GOOD: [&'static [Entry<'static>]; 6] = [
 #[test]
 fn good_nodes(rt: HostRuntime) -> Result<(), Fail> {
     let heap = rt.alloc();
-    expect_taken(
-        &rt,
-        heap,
+    let t = Tester { rt: &rt, heap };
+    t.expect_taken(
         &Place::Nodes.file(heap)?,
         &GOOD,
         &[Strand, Property(NEVER_N)],
@@ -96,12 +104,12 @@ fn good_nodes(rt: HostRuntime) -> Result<(), Fail> {
 // The next record is 259. The last tree has 2 to the 255 leaves: to walk it would never end.
 fn tower(heap: Global, kind: u16) -> Result<SheetFile, AllocError> {
     let mut file = SheetFile::new(heap);
-    file.label(b"a")?;
-    file.name(b"n")?;
-    file.variable(b"x")?;
-    file.node(kind, 0, 0)?;
+    file.entry(Label(b"a"))?;
+    file.entry(Name(b"n"))?;
+    file.entry(Variable(b"x"))?;
+    file.entry(Node(kind, 0, 0))?;
     for below in 0..255 {
-        file.node(PAIR, below, below)?;
+        file.entry(Node(PAIR, below, below))?;
     }
     Ok(file)
 }
@@ -121,13 +129,8 @@ const HIGH_GOOD: [&'static [Entry<'static>]; 2] = [
 #[test]
 fn a_tower_of_names(rt: HostRuntime) -> Result<(), Fail> {
     let heap = rt.alloc();
-    expect_taken(
-        &rt,
-        heap,
-        &tower(heap, NAME)?,
-        &HIGH_GOOD,
-        &[Property(HIGH)],
-    )
+    let t = Tester { rt: &rt, heap };
+    t.expect_taken(&tower(heap, NAME)?, &HIGH_GOOD, &[Property(HIGH)])
 }
 
 const HIGH_BAD: [Case<'static>; 3] = [
@@ -150,7 +153,8 @@ const HIGH_BAD: [Case<'static>; 3] = [
 #[test]
 fn a_tower_of_variables(rt: HostRuntime) -> Result<(), Fail> {
     let heap = rt.alloc();
+    let t = Tester { rt: &rt, heap };
     let file = tower(heap, VARIABLE)?;
-    expect_taken(&rt, heap, &file, &[&[Strand]], &[Property(HIGH)])?;
-    expect_cases(&rt, heap, &file, &HIGH_BAD)
+    t.expect_taken(&file, &[&[Strand]], &[Property(HIGH)])?;
+    t.expect_cases(&file, &HIGH_BAD, 0)
 }

@@ -17,9 +17,11 @@ const UNKNOWN: [Entry<'static>; 4] = [
 
 #[test]
 fn unknown_kinds(rt: HostRuntime) -> Result<(), Fail> {
-    expect_each(
-        &rt,
-        rt.alloc(),
+    let t = Tester {
+        rt: &rt,
+        heap: rt.alloc(),
+    };
+    t.expect_each(
         &[Place::Start, Place::Texts, Place::Strand, Place::End],
         &UNKNOWN,
         2,
@@ -37,13 +39,11 @@ const SOON: [Entry<'static>; 4] = [
 
 #[test]
 fn before_a_strand(rt: HostRuntime) -> Result<(), Fail> {
-    expect_each(
-        &rt,
-        rt.alloc(),
-        &[Place::Start, Place::Texts, Place::Nodes],
-        &SOON,
-        2,
-    )
+    let t = Tester {
+        rt: &rt,
+        heap: rt.alloc(),
+    };
+    t.expect_each(&[Place::Start, Place::Texts, Place::Nodes], &SOON, 2)
 }
 
 // each kind of text after each later kind, where nothing else is before it
@@ -66,7 +66,8 @@ const TEXTS_LATE: [Case<'static>; 12] = [
 #[test]
 fn texts_in_order(rt: HostRuntime) -> Result<(), Fail> {
     let heap = rt.alloc();
-    expect_cases(&rt, heap, &SheetFile::new(heap), &TEXTS_LATE)
+    let t = Tester { rt: &rt, heap };
+    t.expect_cases(&SheetFile::new(heap), &TEXTS_LATE, 0)
 }
 
 const TEXTS: [Entry<'static>; 6] = [
@@ -81,9 +82,11 @@ const TEXTS: [Entry<'static>; 6] = [
 
 #[test]
 fn texts_before_nodes(rt: HostRuntime) -> Result<(), Fail> {
-    expect_each(
-        &rt,
-        rt.alloc(),
+    let t = Tester {
+        rt: &rt,
+        heap: rt.alloc(),
+    };
+    t.expect_each(
         &[Place::Nodes, Place::Strand, Place::Input, Place::End],
         &TEXTS,
         2,
@@ -95,13 +98,11 @@ const NODES: [Entry<'static>; 2] = [Node(NAME, 0, 0), Node(0, 0, 0)];
 
 #[test]
 fn nodes_before_strands(rt: HostRuntime) -> Result<(), Fail> {
-    expect_each(
-        &rt,
-        rt.alloc(),
-        &[Place::Strand, Place::Input, Place::End],
-        &NODES,
-        2,
-    )
+    let t = Tester {
+        rt: &rt,
+        heap: rt.alloc(),
+    };
+    t.expect_each(&[Place::Strand, Place::Input, Place::End], &NODES, 2)
 }
 
 // nothing comes after the property
@@ -120,7 +121,11 @@ const LATE: [Entry<'static>; 7] = [
 
 #[test]
 fn after_the_property(rt: HostRuntime) -> Result<(), Fail> {
-    expect_each(&rt, rt.alloc(), &[Place::End], &LATE, 2)
+    let t = Tester {
+        rt: &rt,
+        heap: rt.alloc(),
+    };
+    t.expect_each(&[Place::End], &LATE, 2)
 }
 
 // nodes and strands of another length than 6 and 0
@@ -137,13 +142,11 @@ const LONG_OR_SHORT: [Entry<'static>; 7] = [
 
 #[test]
 fn fixed_lengths(rt: HostRuntime) -> Result<(), Fail> {
-    expect_each(
-        &rt,
-        rt.alloc(),
-        &[Place::Texts, Place::Nodes],
-        &LONG_OR_SHORT,
-        2,
-    )
+    let t = Tester {
+        rt: &rt,
+        heap: rt.alloc(),
+    };
+    t.expect_each(&[Place::Texts, Place::Nodes], &LONG_OR_SHORT, 2)
 }
 
 // steps, strands and properties of another length than 6, 0 and 12
@@ -164,11 +167,9 @@ const LONG_OR_SHORT_LATER: [Entry<'static>; 10] = [
 
 #[test]
 fn later_fixed_lengths(rt: HostRuntime) -> Result<(), Fail> {
-    expect_each(
-        &rt,
-        rt.alloc(),
-        &[Place::Strand, Place::Input],
-        &LONG_OR_SHORT_LATER,
-        2,
-    )
+    let t = Tester {
+        rt: &rt,
+        heap: rt.alloc(),
+    };
+    t.expect_each(&[Place::Strand, Place::Input], &LONG_OR_SHORT_LATER, 2)
 }

@@ -43,7 +43,11 @@ const BAD: [Entry<'static>; 24] = [
 
 #[test]
 fn bad_properties(rt: HostRuntime) -> Result<(), Fail> {
-    expect_each(&rt, rt.alloc(), &[Place::Input], &BAD, 8)
+    let t = Tester {
+        rt: &rt,
+        heap: rt.alloc(),
+    };
+    t.expect_each(&[Place::Input], &BAD, 8)
 }
 
 const NEVER_Y: [u16; 6] = [NONE, 0, 0, OUTPUT, 0, Y];
@@ -59,7 +63,8 @@ const BOUND: [Case<'static>; 4] = [
 #[test]
 fn bound_by_a_step(rt: HostRuntime) -> Result<(), Fail> {
     let heap = rt.alloc();
-    expect_cases(&rt, heap, &Place::Strand.file(heap)?, &BOUND)
+    let t = Tester { rt: &rt, heap };
+    t.expect_cases(&Place::Strand.file(heap)?, &BOUND, 0)
 }
 
 // free variables in the later action, and some or all of them in the earlier one
@@ -78,5 +83,6 @@ const GOOD: [&'static [Entry<'static>]; 9] = [
 #[test]
 fn good_properties(rt: HostRuntime) -> Result<(), Fail> {
     let heap = rt.alloc();
-    expect_taken(&rt, heap, &Place::Input.file(heap)?, &GOOD, &[])
+    let t = Tester { rt: &rt, heap };
+    t.expect_taken(&Place::Input.file(heap)?, &GOOD, &[])
 }

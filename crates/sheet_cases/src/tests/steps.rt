@@ -51,7 +51,11 @@ const BAD: [Entry<'static>; 30] = [
 
 #[test]
 fn bad_steps(rt: HostRuntime) -> Result<(), Fail> {
-    expect_each(&rt, rt.alloc(), &[Place::Strand], &BAD, 6)
+    let t = Tester {
+        rt: &rt,
+        heap: rt.alloc(),
+    };
+    t.expect_each(&[Place::Strand], &BAD, 6)
 }
 
 // Where x is bound and y is not, each of these binds x again or uses y too, which would be refused 7.
@@ -71,5 +75,9 @@ const BAD_TWICE: [Entry<'static>; 11] = [
 
 #[test]
 fn before_variables(rt: HostRuntime) -> Result<(), Fail> {
-    expect_each(&rt, rt.alloc(), &[Place::Input], &BAD_TWICE, 6)
+    let t = Tester {
+        rt: &rt,
+        heap: rt.alloc(),
+    };
+    t.expect_each(&[Place::Input], &BAD_TWICE, 6)
 }

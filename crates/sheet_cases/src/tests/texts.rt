@@ -5,7 +5,6 @@ use crate::file::SheetFile;
 use crate::kind::*;
 use crate::reply::reply_to;
 use crate::tests::support::*;
-use std::alloc::Global;
 use std::process::Abort;
 use std::test::Fail;
 
@@ -27,20 +26,24 @@ const BAD: [&'static [u8]; 12] = [
 ];
 
 // A label, a name and a variable with this text are each refused.
-fn expect_bad(rt: &impl Abort, heap: Global, text: &[u8], i: usize) -> Result<(), Fail> {
+fn expect_bad<R: Abort>(t: &Tester<'_, R>, text: &[u8], i: usize) -> Result<(), Fail> {
     for kind in 1..4 {
-        let mut file = SheetFile::new(heap);
+        let mut file = SheetFile::new(t.heap);
         file.record(kind, text)?;
-        let reply = reply_to(heap, file.as_bytes())?;
-        assert_eq!(rt; reply, refused(4, 0), "text {i}, kind {kind}");
+        let reply = reply_to(t.heap, file.as_bytes())?;
+        assert_eq!(t.rt; reply, refused(4, 0), "text {i}, kind {kind}");
     }
     Ok(())
 }
 
 #[test]
 fn bad_texts(rt: HostRuntime) -> Result<(), Fail> {
+    let t = Tester {
+        rt: &rt,
+        heap: rt.alloc(),
+    };
     for (i, text) in BAD.iter().enumerate() {
-        expect_bad(&rt, rt.alloc(), *text, i)?;
+        expect_bad(&t, *text, i)?;
     }
     Ok(())
 }
@@ -55,20 +58,24 @@ const REST: [Entry<'static>; 3] = [
 ];
 
 // Two labels, two names and two variables may all have this text.
-fn expect_good(rt: &impl Abort, heap: Global, text: &[u8], i: usize) -> Result<(), Fail> {
-    let mut file = SheetFile::new(heap);
+fn expect_good<R: Abort>(t: &Tester<'_, R>, text: &[u8], i: usize) -> Result<(), Fail> {
+    let mut file = SheetFile::new(t.heap);
     for kind in 1..4 {
         file.record(kind, text)?;
         file.record(kind, text)?;
     }
     file.entries(&REST)?;
-    expect_whole_at(rt, heap, &file, i)
+    t.expect_whole(&file, i)
 }
 
 #[test]
 fn good_texts(rt: HostRuntime) -> Result<(), Fail> {
+    let t = Tester {
+        rt: &rt,
+        heap: rt.alloc(),
+    };
     for (i, text) in GOOD.iter().enumerate() {
-        expect_good(&rt, rt.alloc(), *text, i)?;
+        expect_good(&t, *text, i)?;
     }
     Ok(())
 }

@@ -26,6 +26,7 @@ const LONG: [Case<'static>; 4] = [
 #[test]
 fn without_a_property(rt: HostRuntime) -> Result<(), Fail> {
     let heap = rt.alloc();
-    expect_cases(&rt, heap, &SheetFile::new(heap), &SHORT)?;
-    expect_cases(&rt, heap, &Place::Nodes.file(heap)?, &LONG)
+    let t = Tester { rt: &rt, heap };
+    t.expect_cases(&SheetFile::new(heap), &SHORT, 0)?;
+    t.expect_cases(&Place::Nodes.file(heap)?, &LONG, 0)
 }

@@ -25,7 +25,8 @@ const TWICE: [Case<'static>; 10] = [
 #[test]
 fn bound_twice(rt: HostRuntime) -> Result<(), Fail> {
     let heap = rt.alloc();
-    expect_cases(&rt, heap, &Place::Strand.file(heap)?, &TWICE)
+    let t = Tester { rt: &rt, heap };
+    t.expect_cases(&Place::Strand.file(heap)?, &TWICE, 0)
 }
 
 const EARLY: [Case<'static>; 16] = [
@@ -56,7 +57,8 @@ const EARLY: [Case<'static>; 16] = [
 #[test]
 fn used_too_soon(rt: HostRuntime) -> Result<(), Fail> {
     let heap = rt.alloc();
-    expect_cases(&rt, heap, &Place::Strand.file(heap)?, &EARLY)
+    let t = Tester { rt: &rt, heap };
+    t.expect_cases(&Place::Strand.file(heap)?, &EARLY, 0)
 }
 
 const GOOD: [&'static [Entry<'static>]; 6] = [
@@ -81,11 +83,6 @@ const GOOD: [&'static [Entry<'static>]; 6] = [
 #[test]
 fn bound_in_time(rt: HostRuntime) -> Result<(), Fail> {
     let heap = rt.alloc();
-    expect_taken(
-        &rt,
-        heap,
-        &Place::Strand.file(heap)?,
-        &GOOD,
-        &[Property(NEVER_N)],
-    )
+    let t = Tester { rt: &rt, heap };
+    t.expect_taken(&Place::Strand.file(heap)?, &GOOD, &[Property(NEVER_N)])
 }

@@ -32,7 +32,8 @@ const FIRST_FAULTS: [Case<'static>; 8] = [
 #[test]
 fn the_first_fault_counts(rt: HostRuntime) -> Result<(), Fail> {
     let heap = rt.alloc();
-    expect_cases(&rt, heap, &SheetFile::new(heap), &FIRST_FAULTS)
+    let t = Tester { rt: &rt, heap };
+    t.expect_cases(&SheetFile::new(heap), &FIRST_FAULTS, 0)
 }
 
 // strands with no step, alone, before and after others
@@ -52,9 +53,8 @@ const EMPTY_STRANDS: [&'static [Entry<'static>]; 4] = [
 #[test]
 fn a_strand_may_be_empty(rt: HostRuntime) -> Result<(), Fail> {
     let heap = rt.alloc();
-    expect_taken(
-        &rt,
-        heap,
+    let t = Tester { rt: &rt, heap };
+    t.expect_taken(
         &Place::Strand.file(heap)?,
         &EMPTY_STRANDS,
         &[Property(NEVER_N)],
@@ -72,5 +72,6 @@ const NO_NAMES: [&'static [Entry<'static>]; 1] = [&[
 #[test]
 fn there_may_be_no_names(rt: HostRuntime) -> Result<(), Fail> {
     let heap = rt.alloc();
-    expect_taken(&rt, heap, &SheetFile::new(heap), &NO_NAMES, &[])
+    let t = Tester { rt: &rt, heap };
+    t.expect_taken(&SheetFile::new(heap), &NO_NAMES, &[])
 }

@@ -1,7 +1,8 @@
 // A sheet written out again as a file, from what its queries say.
+use crate::entry::Entry;
 use crate::file::SheetFile;
 use crate::kind;
-use protocol::{Action, Direction, Step};
+use protocol::{Action, Direction, Property, Step};
 use sheet::Sheet;
 use std::alloc::{AllocError, Global};
 use terms::Node;
@@ -10,54 +11,56 @@ use terms::Node;
 pub fn file_of(heap: Global, sheet: &Sheet) -> Result<SheetFile, AllocError> {
     let mut file = SheetFile::new(heap);
     for text in sheet.labels() {
-        file.label(text.as_bytes())?;
+        file.entry(Entry::Label(text.as_bytes()))?;
     }
     for text in sheet.names() {
-        file.name(text.as_bytes())?;
+        file.entry(Entry::Name(text.as_bytes()))?;
     }
     for text in sheet.variables() {
-        file.variable(text.as_bytes())?;
+        file.entry(Entry::Variable(text.as_bytes()))?;
     }
     for node in sheet.nodes() {
-        write_node(&mut file, *node)?;
+        file.entry(Entry::from(*node))?;
     }
     for strand in sheet.strands() {
-        file.strand()?;
+        file.entry(Entry::Strand)?;
         for step in strand.steps() {
-            write_step(&mut file, *step)?;
+            file.entry(Entry::from(*step))?;
         }
     }
-    let property = sheet.property();
-    let [p, q, r] = earlier_fields(property.earlier);
-    let [s, u, v] = fields(property.later);
-    file.property([p, q, r, s, u, v])?;
+    file.entry(Entry::from(sheet.property()))?;
     Ok(file)
 }
 
-fn write_node(file: &mut SheetFile, node: Node) -> Result<(), AllocError> {
-    match node {
-        Node::Name(n) => file.node(kind::NAME, n.0, 0),
-        Node::Var(x) => file.node(kind::VARIABLE, x.0, 0),
-        Node::Pair { left, right } => file.node(kind::PAIR, left.0, right.0),
-        Node::Seal { body, key } => file.node(kind::SEAL, body.0, key.0),
-        Node::Env(e) => file.node(kind::ENV, e.0, 0),
+impl From<Node> for Entry<'static> {
+    fn from(node: Node) -> Entry<'static> {
+        match node {
+            Node::Name(n) => Entry::Node(kind::NAME, n.0, 0),
+            Node::Var(x) => Entry::Node(kind::VARIABLE, x.0, 0),
+            Node::Pair { left, right } => Entry::Node(kind::PAIR, left.0, right.0),
+            Node::Seal { body, key } => Entry::Node(kind::SEAL, body.0, key.0),
+            Node::Env(e) => Entry::Node(kind::ENV, e.0, 0),
+        }
     }
 }
 
-fn write_step(file: &mut SheetFile, step: Step) -> Result<(), AllocError> {
-    match step {
-        Step::Input { label, variable } => file.step(kind::INPUT, label.0, variable.0),
-        Step::Output { label, node } => file.step(kind::OUTPUT, label.0, node.0),
-        Step::Open { subject, pattern } => file.step(kind::OPEN, subject.0, pattern.0),
-        Step::Split { subject, pattern } => file.step(kind::SPLIT, subject.0, pattern.0),
-        Step::Same { left, right } => file.step(kind::SAME, left.0, right.0),
+impl From<Step> for Entry<'static> {
+    fn from(step: Step) -> Entry<'static> {
+        match step {
+            Step::Input { label, variable } => Entry::Step(kind::INPUT, label.0, variable.0),
+            Step::Output { label, node } => Entry::Step(kind::OUTPUT, label.0, node.0),
+            Step::Open { subject, pattern } => Entry::Step(kind::OPEN, subject.0, pattern.0),
+            Step::Split { subject, pattern } => Entry::Step(kind::SPLIT, subject.0, pattern.0),
+            Step::Same { left, right } => Entry::Step(kind::SAME, left.0, right.0),
+        }
     }
 }
 
-fn earlier_fields(action: Option<Action>) -> [u16; 3] {
-    match action {
-        None => [kind::NONE, 0, 0],
-        Some(a) => fields(a),
+impl From<Property> for Entry<'static> {
+    fn from(property: Property) -> Entry<'static> {
+        let [p, q, r] = property.earlier.map_or([kind::NONE, 0, 0], fields);
+        let [s, u, v] = fields(property.later);
+        Entry::Property([p, q, r, s, u, v])
     }
 }
 

@@ -10,9 +10,7 @@ returns-in-Ok c =
     IfOk-weaker c.listing.result _ _
     (λ t w. (taken (content_of c.read.new.self), c.in-Ok.ensures.reply, w)) c.listing.ensures
 
-pub returns-in-Refused : goal.returns-in-Refused
-returns-in-Refused c =
-    let w = rw c.in-Refused.is at c.in-Err.ensures.reply in
-    IfOk-weaker c.refusal.result _ _
-    (λ t e. (refused c.in-Refused.rule c.in-Refused.record, w.0, e ∙ ap (λ n. refusal_line n c.in-Refused.record) c.number.ensures))
-    c.refusal.ensures
+pub returns-in-Err-Refused : goal.returns-in-Err-Refused
+returns-in-Err-Refused c =
+    let w = rw c.in-Err-Refused.field-0-is at c.in-Err-Refused.ensures.reply in
+    IfOk-weaker c.format.result _ _ (λ t e. (refused c.in-Err-Refused.rule c.in-Err-Refused.record, w.0, e ∙ ap (λ n. refusal_line n c.in-Err-Refused.record) c.number-number.ensures)) c.format.ensures.ok

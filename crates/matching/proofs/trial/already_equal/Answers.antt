@@ -1,11 +1,11 @@
-use Rattle.std.proofs.Common.{◌≡◌, ℕ, ◌≤◌, Bool, true, false, eqb, List, length, take, Ok, Err, Result, sym, ap, ◌∙◌, subst, arith, rules}
+use Rattle.std.proofs.Common.{◌≡◌, ℕ, ◌≤◌, Bool, true, false, eqb, List, length, take, Ok, Result, sym, ap, ◌∙◌, subst, arith, rules}
 use lib.Seq.{take-length}
 use Rattle.terms.specs.declared.node.Node.{Node}
 use Rattle.unification.specs.Bindings.{Good}
 use Rattle.matching.specs.declared.matching.Matching.{Matching}
 use Rattle.matching.specs.declared.fault.MatchFault.{MatchFault}
 use Rattle.matching.specs.Matchings.{nodes_of, bound, Matches, Already}
-use Rattle.matching.proofs.Trying.{match_front, already_apart, already_counted, already_refused}
+use Rattle.matching.proofs.Trying.{match_front, already_apart, already_counted}
 use Rattle.matching.proofs.trial.already_equal.Goals as goal
 
 -- what the trial goes back to
@@ -18,20 +18,6 @@ back m t z k n e p q front =
 from : (m t : Matching) (a b : ℕ) (r : Result Bool MatchFault) (z : Matching) → t ≡ m → Matches (nodes_of t) (bound t) a b r (bound z) → Matches (nodes_of m) (bound m) a b r (bound z)
 from m t a b r z e h = subst (λ (x : Matching). Matches (nodes_of x) (bound x) a b r (bound z)) e h
 
-pub returns-in_err-matches : goal.returns-in_err-matches
-returns-in_err-matches c =
-    let m = c.args.m.now in
-    let t = c.of-trial.result.matching.now in
-    let z = c.matches.new.self.matching.now in
-    let e = c.in_err-matches.ensures in
-    let kept : take c.matches.new.self.mark (bound z) ≡ bound m = back m t z c.matches.new.self.mark c.of-trial.result.mark c.of-trial.ensures.matching e.mark c.of-trial.ensures.mark (match_front (nodes_of t) (bound t) c.args.a.0 c.args.b.0 (Err c.in_err-matches.field-0.0) (bound z) e.answer) in
-    let table : nodes_of z ≡ nodes_of m = e.nodes ∙ ap nodes_of c.of-trial.ensures.matching in
-    record {
-      answer = already_refused (nodes_of m) (bound m) (bound z) c.args.a.0 c.args.b.0 m.good c.in_err-matches.field-0.0 c.from_residual.result c.from_residual.ensures.0 (from m t c.args.a.0 c.args.b.0 (Err c.in_err-matches.field-0.0) z c.of-trial.ensures.matching e.answer);
-      bound = search rules;
-      nodes = search rules;
-    }
-
 pub returns-then-not-branch : goal.returns-then-not-branch
 returns-then-not-branch c =
     let m = c.args.m.now in
@@ -42,7 +28,7 @@ returns-then-not-branch c =
     let kept : take c.matches.new.self.mark (bound z) ≡ bound m = back m t z c.matches.new.self.mark c.of-trial.result.mark c.of-trial.ensures.matching e.mark c.of-trial.ensures.mark (match_front (nodes_of t) (bound t) c.args.a.0 c.args.b.0 (Ok c.in_ok-matches.field-0) (bound z) e.answer) in
     let table : nodes_of z ≡ nodes_of m = e.nodes ∙ ap nodes_of c.of-trial.ensures.matching in
     record {
-      answer = already_apart (nodes_of m) (bound m) (bound z) c.args.a.0 c.args.b.0 m.good (from m t c.args.a.0 c.args.b.0 (Ok false) z c.of-trial.ensures.matching h);
+      answer = already_apart (nodes_of m) (bound m) (bound z) c.args.a.0 c.args.b.0 m.solver.good (from m t c.args.a.0 c.args.b.0 (Ok false) z c.of-trial.ensures.matching h);
       bound = search rules;
       nodes = search rules;
     }
@@ -56,8 +42,8 @@ returns c =
     let h = subst (λ (v : Bool). Matches (nodes_of t) (bound t) c.args.a.0 c.args.b.0 (Ok v) (bound z)) c.if-not-branch.false e.answer in
     let kept : take c.matches.new.self.mark (bound z) ≡ bound m = back m t z c.matches.new.self.mark c.of-trial.result.mark c.of-trial.ensures.matching e.mark c.of-trial.ensures.mark (match_front (nodes_of t) (bound t) c.args.a.0 c.args.b.0 (Ok c.in_ok-matches.field-0) (bound z) e.answer) in
     let table : nodes_of z ≡ nodes_of m = e.nodes ∙ ap nodes_of c.of-trial.ensures.matching in
-    let good : ∥ Good (nodes_of m) (bound z) ∥₁ = subst (λ (ns : List Node). ∥ Good ns (bound z) ∥₁) table z.good in
-    let a = already_counted (nodes_of m) (bound m) (bound z) c.args.a.0 c.args.b.0 m.good good (from m t c.args.a.0 c.args.b.0 (Ok true) z c.of-trial.ensures.matching h) in
+    let good : ∥ Good (nodes_of m) (bound z) ∥₁ = subst (λ (ns : List Node). ∥ Good ns (bound z) ∥₁) table z.solver.good in
+    let a = already_counted (nodes_of m) (bound m) (bound z) c.args.a.0 c.args.b.0 m.solver.good good (from m t c.args.a.0 c.args.b.0 (Ok true) z c.of-trial.ensures.matching h) in
     let now-count : length c.bindings.result.now ≡ length (bound z) = ap length c.bindings.ensures.list in
     let then-count : length c.bindings-before.result.now ≡ length (bound m) = ap length c.bindings-before.ensures.list in
     record {

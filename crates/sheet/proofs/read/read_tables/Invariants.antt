@@ -5,7 +5,7 @@ use Rattle.sheet.proofs.Loading.{Sofar}
 use Rattle.sheet.proofs.read.read_tables.Given as goal
 
 abbrev pub invariant-loop-draft : goal.invariant-loop-draft
-invariant-loop-draft l = Sofar l.bytes (content l.draft.tables) l.draft.bound l.draft.here (rest l.records) l.records.count
+invariant-loop-draft l = Sofar l.bytes (content l.draft.tables) (rest l.records) l.records.count
 
 abbrev pub decreases-loop-draft : goal.decreases-loop-draft
 decreases-loop-draft l = length (rest l.records)

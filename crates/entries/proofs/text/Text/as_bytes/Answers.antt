@@ -1,5 +1,6 @@
-use Rattle.entries.proofs.Texts.{text_part}
+use Rattle.std.proofs.Common.{◌∙◌}
+use Rattle.entries.proofs.Texts.{printable_bytes}
 use Rattle.entries.proofs.text.Text.as_bytes.Goals as goal
 
-pub returns : goal.returns
-returns c = let p = text_part c.args.self.now.bytes c.args.self.now.len c.args.self.now.plain in record { value = p.0; printable = p.1 }
+pub returns-clause-printable : goal.returns-clause-printable
+returns-clause-printable c = rw (c.as_bytes.ensures.value ∙ c.deref.ensures.0) (printable_bytes _ c.args.self.now.plain)

@@ -1,16 +1,18 @@
-use Rattle.std.proofs.Common.{length, refl, ap, ◌∙◌, arith}
-use Rattle.entries.specs.Printable.{printable?}
-use Rattle.entries.proofs.Texts.{held_length, held_front, true_printable}
+use Rattle.std.proofs.Common.{◌≡◌, arith, ◌∙◌, sym}
+use Rattle.std.proofs.lemmas.Grind.{common_steps}
+use Rattle.entries.proofs.Texts.{bytes_printable, printable_bytes, utf8, kept}
 use Rattle.entries.proofs.text.Text.new.Goals as goal
 
-pub invariant_of-result : goal.invariant_of-result
-invariant_of-result c =
-    let a = c.copy_from_slice.ensures.after in
-    record {
-      within = omega arith;
-      long = held_length _ _ _ (ap length a) (omega arith) refl;
-      plain = ap printable? (held_front _ _ _ _ a refl) ∙ true_printable _ (c.printable.ensures.0 c.if-not-printable.false);
-    }
+pub returns-then-is_empty : goal.returns-then-is_empty
+returns-then-is_empty c t = grind (arith, common_steps, bytes_printable _ t.2, t.0)
+
+pub returns-in_err-text : goal.returns-in_err-text
+returns-in_err-text c = grind (arith, common_steps, utf8)
 
 pub returns : goal.returns
-returns c = ((omega arith, omega arith, c.printable.ensures.0 c.if-not-printable.false), held_front _ _ _ _ c.copy_from_slice.ensures.after refl)
+returns c =
+    let p = printable_bytes c.args.bytes.now (sym c.printable.ensures ∙ c.if-not-printable.false) in
+    let e = kept (λ t. t.now ≡ c.args.bytes.now) c.from_utf8.result c.in_ok-text.text c.in_ok-text.ensures.value (grind (arith, common_steps, c.from_utf8.ensures.cases)) in
+    let f = kept (λ t. t.bytes ≡ c.in_ok-text.text.now) c.from.result c.in_ok-text-2.text c.in_ok-text-2.ensures.value c.from.ensures.ok in
+    let l = c.from.ensures.variant.0 (sym c.in_ok-text-2.ensures.variant) in
+    ((grind (arith, common_steps), omega (arith, rw e at l), p), f ∙ e)

@@ -5,12 +5,6 @@ use Rattle.unification.proofs.Counting.{heads_reset}
 use Rattle.unification.proofs.Tracing.{traced_free, lower_free, listed_front, listed_last}
 use Rattle.matching.proofs.classes.Classes.reset.Goals as goal
 
-pub index_mut-requires : goal.index_mut-requires
-index_mut-requires c =
-    let s = c.loop-n.self in
-    let e = c.in-Some.ensures.items in
-    listed_last (λ i. i < vec_len s.parents) (vec_items c.pop.new.self) c.in-Some.n (subst (λ (M : List NodeNo). (k : ℕ) → k < length M → up M k < vec_len s.parents) e s.listed)
-
 pub invariant_of-self : goal.invariant_of-self
 invariant_of-self c =
     let s = c.loop-n.self in

@@ -8,9 +8,5 @@ use Rattle.matching.proofs.matching.Matching.cut.Goals as goal
 pub invariant_of-self : goal.invariant_of-self
 invariant_of-self c =
     let m = c.args.self.now in
-    record {
-      good = subst (λ (B : List Binding). ∥ Good (nodes_of m) B ∥₁) (sym c.cut.ensures) (good_front (nodes_of m) (bound m) c.args.n m.good);
-      fits = m.fits;
-      calm = m.calm;
-      roomy = m.roomy;
-    }
+    let good = subst (λ (B : List Binding). ∥ Good (nodes_of m) B ∥₁) (sym c.cut.ensures) (good_front (nodes_of m) (bound m) c.args.n m.solver.good) in
+    ((good, (m.solver.fits, tt)), (m.calm, (m.roomy, tt)))

@@ -1,15 +1,10 @@
-use Rattle.std.proofs.Common.{◌≡◌, ℕ, Bool, true, false, List, get_or, Ok, Err, refl, ◌∙◌, subst, arith, take_all}
+use Rattle.std.proofs.Common.{◌≡◌, ℕ, Bool, true, false, List, get_or, Ok, Err, ◌∙◌, subst, arith, take_all}
 use Rattle.terms.specs.declared.node.Node.{Node}
 use Rattle.unification.specs.Bindings.{Good}
 use Rattle.unification.specs.declared.ask.Ask.{Ask}
 use Rattle.matching.specs.Matchings.{nodes_of, bound, Matches}
-use Rattle.matching.proofs.Trying.{match_longer, match_front, no_ask, one_more, when_refused, joint_none, joint_on, joint_stops, joint_refused, joint_ends}
+use Rattle.matching.proofs.Trying.{match_longer, match_front, no_ask, one_more, when_refused, joint_on, joint_stops, joint_refused, joint_ends}
 use Rattle.matching.proofs.trial.Trial.match_each.Goals as goal
-
-pub loop-w-init : goal.loop-w-init
-loop-w-init c =
-    let m = c.args.self.now.matching.now in
-    (refl, refl, refl, omega arith, λ k h. refl, joint_none (nodes_of m) (bound m) c.args.asks.now)
 
 pub loop-w-preserved : goal.loop-w-preserved
 loop-w-preserved c =
@@ -47,7 +42,7 @@ returns-in_err-matches c =
     let e = c.in_err-matches.ensures in
     let front = match_front (nodes_of n) (bound n) w.left.0 w.right.0 (Err c.in_err-matches.field-0.0) (bound z) e.answer in
     let h = subst (λ (t : List Node). Matches t (bound n) w.left.0 w.right.0 (Err c.in_err-matches.field-0.0) (bound z)) nodes e.answer in
-    let g : ∥ Good (nodes_of m) (bound n) ∥₁ = subst (λ (t : List Node). ∥ Good t (bound n) ∥₁) nodes n.good in
+    let g : ∥ Good (nodes_of m) (bound n) ∥₁ = subst (λ (t : List Node). ∥ Good t (bound n) ∥₁) nodes n.solver.good in
     record {
       same = e.same ∙ c.loop-w.invariant.0;
       mark = e.mark ∙ c.loop-w.invariant.1;
@@ -82,7 +77,7 @@ pub returns : goal.returns
 returns c =
     let m = c.args.self.now.matching.now in
     let n = c.loop-w.self.matching.now in
-    let g : ∥ Good (nodes_of m) (bound n) ∥₁ = subst (λ (t : List Node). ∥ Good t (bound n) ∥₁) c.loop-w.invariant.2 n.good in
+    let g : ∥ Good (nodes_of m) (bound n) ∥₁ = subst (λ (t : List Node). ∥ Good t (bound n) ∥₁) c.loop-w.invariant.2 n.solver.good in
     record {
       same = c.loop-w.invariant.0;
       mark = c.loop-w.invariant.1;

@@ -1,50 +1,26 @@
-use Rattle.std.proofs.Common.{◌≡◌, ◌+◌, ◌-◌, length, vec_items, refl, ap, arith}
+use Rattle.std.proofs.Common.{◌≡◌, ◌+◌, ◌-◌, ◌∷◌, [], ◌++◌, length, vec_items, refl, arith, rules}
 use Rattle.std.proofs.lemmas.List.{length-map}
-use Rattle.entries.specs.declared.fault.Rule.TheVariants as r
-use Rattle.sheet.specs.View.{steps_of, content}
-use Rattle.sheet.proofs.Stepping.{latest_read, step_written, step_full, step_entered}
+use Rattle.sheet.specs.View.{content, steps_of}
+use Rattle.sheet.proofs.Stepping.{step_written, step_entered, step_tracked}
 use Rattle.sheet.proofs.draft.Draft.add_step.Goals as goal
 
-pub overflow_sub-k : goal.overflow_sub-k
-overflow_sub-k c =
-    let t = c.args.self.now.tables in
+pub invariant_of-self-2 : goal.invariant_of-self-2
+invariant_of-self-2 c =
+    let d = c.args.self.now in
+    let t = d.tables in
     let e = length-map (vec_items t.strands) steps_of in
-    let v = t.strands.ok.0 in
-    let o = c.in_ok-placed.ensures.0 r.Kind (omega arith) in
-    omega (arith, o.0)
-
-pub index-strand-requires : goal.index-strand-requires
-index-strand-requires c =
-    let t = c.args.self.now.tables in
-    let e = length-map (vec_items t.strands) steps_of in
-    let v = t.strands.ok.0 in
-    let o = c.in_ok-placed.ensures.0 r.Kind (omega arith) in
-    omega (arith, o.0)
-
-pub returns-in_default : goal.returns-in_default
-returns-in_default c =
-    let t = c.args.self.now.tables in
-    let e = length-map (vec_items t.strands) steps_of in
-    let v = t.strands.ok.0 in
-    let o = c.in_ok-placed.ensures.0 r.Kind (omega arith) in
-    let k : (c.len-k.result - 1) + 1 ≡ length (vec_items t.strands) = omega (arith, o.0) in
-    let n = ap length (latest_read (vec_items t.strands) _ _ k c.index-strand.ensures) in
-    (refl, step_full (content t) _ _ _ c.in_ok-placed.ensures.0 (omega (arith, n, c.in_default.ensures)))
-
-pub index_mut-requires : goal.index_mut-requires
-index_mut-requires c =
-    let t = c.args.self.now.tables in
-    let e = length-map (vec_items t.strands) steps_of in
-    let v = t.strands.ok.0 in
-    let o = c.in_ok-placed.ensures.0 r.Kind (omega arith) in
-    omega (arith, o.0)
+    let n : (c.len-k.result - 1) + 1 ≡ length (vec_items t.strands) = omega (arith, c.requires.order.0, t.strands.ok.0) in
+    let g : steps_of c.unwrap-longer.result ≡ steps_of c.index.result.now ++ (c.in_ok-placed.placed.step ∷ []) = search rules in
+    let q = c.in_ok-placed.ensures in
+    let w = step_written (vec_items t.strands) _ _ _ _ _ n c.index.ensures g refl in
+    let r = step_tracked (content t) _ _ _ _ _ q.0 q.1 w _ _ _ _ _ d.bound_is d.here_is q.2 c.union-self.ensures c.union-self-2.ensures in
+    record { bound_is = r.0; here_is = r.1 }
 
 pub returns : goal.returns
 returns c =
     let t = c.args.self.now.tables in
     let e = length-map (vec_items t.strands) steps_of in
-    let v = t.strands.ok.0 in
-    let o = c.in_ok-placed.ensures.0 r.Kind (omega arith) in
-    let k : (c.len-k.result - 1) + 1 ≡ length (vec_items t.strands) = omega (arith, o.0) in
-    let p = c.in_ok-placed.ensures in
-    step_entered (content t) _ _ _ _ _ _ _ _ _ _ p.0 p.1 p.2 (step_written (vec_items t.strands) _ _ _ _ _ k c.index-strand.ensures c.in-Some.ensures.1 refl) c.requires.tracks c.union-self.ensures c.union-self-2.ensures
+    let n : (c.len-k.result - 1) + 1 ≡ length (vec_items t.strands) = omega (arith, c.requires.order.0, t.strands.ok.0) in
+    let g : steps_of c.unwrap-longer.result ≡ steps_of c.index.result.now ++ (c.in_ok-placed.placed.step ∷ []) = search rules in
+    let q = c.in_ok-placed.ensures in
+    step_entered (content t) _ _ _ _ _ q.0 q.1 (step_written (vec_items t.strands) _ _ _ _ _ n c.index.ensures g refl)

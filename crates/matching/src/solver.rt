@@ -1,0 +1,73 @@
+// The loop of a match: pairs wait on a stack, latest first, until none is left or one cannot be made equal.
+ghost use Rattle.std.specs.Prelude.{◌≡◌, ℕ, ◌+◌, ◌<◌, ◌≤◌, [], ◌∷◌, ◌++◌, length, vec_len};
+ghost use Rattle.stack.specs.Waiting.{waiting, room};
+ghost use Rattle.unification.specs.Bindings.{Good};
+ghost use Rattle.unification.specs.Steps.{heads, Stepped, Matched};
+
+use crate::bindings::Bindings;
+use crate::classes::{Classes, wait};
+use stack::Stack;
+use terms::{NodeNo, NodeTable};
+use unification::{Ask, Binding, Compared, compare};
+
+// The nodes, the bindings so far, and which nodes have to be equal.
+#[derive(Drop)]
+pub struct Solver {
+    pub(crate) nodes: NodeTable,
+    pub(crate) bindings: Bindings,
+    pub(crate) classes: Classes,
+    ghost good: { ∥ Good nodes.nodes.items bindings.list.items ∥₁ },
+    ghost fits: { vec_len classes.parents ≡ length nodes.nodes.items },
+}
+
+impl Solver {
+    // One waiting pair: yes, and what it asks is bound or waits; or no. The stack is over the caller's memory, so it is
+    // handed in; that a number is some node's is said of numbers, since no type of one table's nodes is plainer.
+    fn step(&mut self, asks: &mut Stack<'_, Ask>, w: Ask) -> bool
+        requires left { w.left.0 < length self.old.nodes.nodes.items }
+        requires right { w.right.0 < length self.old.nodes.nodes.items }
+        requires free { length (waiting asks.old) + 1 + heads 0 self.old.classes.parents.items ≤ room asks.old }
+        ensures answer { Stepped self.old.nodes.nodes.items self.old.bindings.list.items self.old.classes.parents.items (waiting asks.old) w self.new.bindings.list.items self.new.classes.parents.items (waiting asks.new) result }
+        ensures nodes { self.new.nodes.nodes.items ≡ self.old.nodes.nodes.items }
+        ensures size { room asks.new ≡ room asks.old }
+    {
+        let c = self.bindings.walk(&self.nodes, w.left);
+        let d = self.bindings.walk(&self.nodes, w.right);
+        let table = self.nodes.as_slice();
+        match compare(table[c.0 as usize], table[d.0 as usize]) {
+            Compared::Same => true,
+            Compared::Clash => false,
+            Compared::Left(variable) => {
+                self.bindings
+                    .assign(&self.nodes, Binding { variable, node: d })
+            }
+            Compared::Right(variable) => {
+                self.bindings
+                    .assign(&self.nodes, Binding { variable, node: c })
+            }
+            Compared::Parts { first, second } => {
+                self.classes.join(asks, c, d, first, second);
+                true
+            }
+        }
+    }
+
+    // Matches a and b; on no, some bindings may be left at the end.
+    pub(crate) fn run(&mut self, memory: &mut [Ask], a: NodeNo, b: NodeNo) -> bool
+        requires calm { vec_len self.old.classes.linked ≡ 0 }
+        requires left { a.0 < length self.old.nodes.nodes.items }
+        requires right { b.0 < length self.old.nodes.nodes.items }
+        requires roomy { length self.old.nodes.nodes.items < length memory.old }
+        ensures answer { Matched self.old.nodes.nodes.items self.old.bindings.list.items a.0 b.0 self.new.bindings.list.items result }
+        ensures nodes { self.new.nodes.nodes.items ≡ self.old.nodes.nodes.items }
+    {
+        let mut asks = Stack::new(memory);
+        wait(&mut asks, Ask { left: a, right: b });
+        while let Some(w) = asks.pop() {
+            if !self.step(&mut asks, w) {
+                return false;
+            }
+        }
+        true
+    }
+}
