@@ -14,8 +14,8 @@ impl Rule {
 }
 
 impl SheetFault {
-    // The number of the refusal; want of memory has none. A call for the number and one for the record, since a caller may
-    // want either alone; who wants both matches on the fault.
+    // The number of the refusal; want of memory has none. A public call, as the one for the record is; who wants both
+    // matches on the fault.
     pub fn number(self) -> Option<u16>
         ensures { result ≡ fault_number self }
     {

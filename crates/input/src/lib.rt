@@ -10,8 +10,8 @@ use std::io::Read;
 pub const LONGEST: usize = 8192;
 
 // Reads standard input up to its end or the buffer's, and says how many bytes came. The buffer is the caller's, of fixed
-// memory, so the count stands beside it. The library's own loops either read
-// to the end of the input, into a vector, or take an end before the buffer's for a fault.
+// memory, so the count stands beside it. The library's own loops either read to the end of the input, into a vector, or
+// take an end before the buffer's for a fault.
 pub fn read_input(rt: &HostRuntime, buf: &mut [u8]) -> io::Result<usize>
     ensures { IfOk result (λ n. n ≤ length buf.old) }
 {

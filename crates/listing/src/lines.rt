@@ -1,4 +1,5 @@
-// The lines of a sheet: those of the texts, of the wide forms, of the strands and their steps, and of the property.
+// The lines of a sheet: those of the texts, of the wide forms, of the strands and their steps, and of the property. The text
+// is handed to each call: a struct that holds it would have to lend it on to each closure.
 ghost use Rattle.std.specs.Prelude.{◌≡◌, ℕ, List, ◌++◌, map, string_bytes, OnOk};
 ghost use Rattle.sheet.specs.Sheets.{content_of};
 ghost use Rattle.sheet.specs.View.{bytes_of, steps_of};
@@ -10,7 +11,6 @@ use protocol::{Property, Step, Strand};
 use sheet::Text;
 use std::alloc::AllocError;
 
-// The text is handed to each of these calls: a struct that holds it would have to lend it on to each closure.
 // What `line` writes of each item under its number, one after another.
 fn push_lines<T, F: Fn(&mut String, usize, &T) -> Result<(), AllocError>>(
     out: &mut String,

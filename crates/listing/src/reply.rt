@@ -17,7 +17,7 @@ pub fn show(heap: Global, bytes: &[u8]) -> Result<String, AllocError>
             let number = rule.number();
             format!(in heap; "refused {number} {record}\n")
         }
-        // the fault came of an AllocError, and keeps no more of it than its name
+        // by hand: the fault keeps no error of the library, and a From would have to answer a refused file too
         Err(SheetFault::NoMemory) => Err(AllocError),
     }
 }

@@ -129,7 +129,8 @@ impl Bindings {
         true
     }
 
-    // The first n bindings stay. One is taken at a time, so that list and index agree after each turn.
+    // The first n bindings stay. One is taken at a time, so that list and index agree after each turn; to drain the list would
+    // be no plainer, since the index has to be cleared for each all the same.
     pub(crate) fn cut(&mut self, n: usize)
         ensures { self.new.list.items ≡ take n self.old.list.items }
     {

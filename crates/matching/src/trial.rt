@@ -50,7 +50,7 @@ impl Trial<'_> {
         self.matching.matches(a, b)
     }
 
-    // The bindings while the trial stands, oldest first; lent as by the matching, for callers that have the trial alone.
+    // The bindings while the trial stands, oldest first. A public call of its own, with all that the matching's says.
     pub fn bindings(&self) -> &[Binding]
         ensures list { result.now ≡ bound self.now.matching.now }
         ensures once { Once (bound self.now.matching.now) }

@@ -73,7 +73,7 @@ fn main(rt: HostRuntime) -> io::Result<()> {
         Err(SheetFault::Refused { rule, record }) => {
             println!(rt; "refused {} {record}", rule.number())
         }
-        // the fault came of an AllocError, and keeps no more of it than its name
+        // by hand: the fault keeps no error of the library, and a From would have to answer a refused file too
         Err(SheetFault::NoMemory) => Err(io::Error::from(AllocError)),
     }
 }

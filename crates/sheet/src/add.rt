@@ -87,6 +87,7 @@ impl Draft {
         ensures { Entered (content self.old.tables) (format.step f.kind f.a f.b) result (content self.new.tables) }
     {
         let placed = self.place(f)?;
+        // by its number, since it is read before it is written
         let k = self.tables.strands.len() - 1;
         let longer = self.tables.strands[k].with(placed.step).unwrap();
         self.tables.strands[k] = longer;
@@ -124,7 +125,8 @@ impl Draft {
         Ok(())
     }
 
-    // The first two rules are asked here for every entry, so the calls below may rest on both.
+    // The first two rules are asked here for every entry, so the calls below rest on both; to ask them again in each, so
+    // that none has to say so, would be no plainer.
     fn add_entry(&mut self, e: Entry) -> Result<(), Refusal>
         ensures { Entered (content self.old.tables) (entry_of e.entry) result (content self.new.tables) }
     {

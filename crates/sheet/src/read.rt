@@ -45,7 +45,7 @@ impl Sheet {
     {
         match read_tables(heap, FIRST) {
             Ok(tables) => Ok(Sheet { tables }),
-            // the fault came of an AllocError, and keeps no more of it than its name
+            // by hand: the fault keeps no error of the library, and a From would have to answer a refused file too
             Err(SheetFault::NoMemory) => Err(AllocError),
             Err(SheetFault::Refused { .. }) => unreachable(),
         }

@@ -60,6 +60,7 @@ impl SheetFile {
         self.words(&actions)
     }
 
+    // An entry is data, a row of which is a file; so there is a match, and no function in a row.
     pub fn entry(&mut self, e: Entry) -> Result<(), AllocError>
         ensures { Wrote self.old (entry_bytes e.entry) result self.new }
     {

@@ -25,7 +25,7 @@ pub fn reply_of(res: Result<(), SheetFault>) -> Result<Reply, AllocError>
             number: rule.number(),
             record,
         })),
-        // the fault came of an AllocError, and keeps no more of it than its name
+        // by hand: the fault keeps no error of the library, and a From would have to answer a refused file too
         Err(SheetFault::NoMemory) => Err(AllocError),
     }
 }

@@ -3,7 +3,7 @@
 
 ghost use Rattle.std.specs.Prelude.{◌≡◌, ◌≤◌, [], length};
 
-// The memory is lent, so the number of waiting items stands beside it.
+// The memory is lent, by a rule of the project, so the number of waiting items stands beside it.
 #[derive(Drop)]
 pub struct Stack<'a, T> {
     items: &'a mut [T],

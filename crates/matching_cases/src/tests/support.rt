@@ -6,7 +6,7 @@ use std::test::Fail;
 use terms::{LocalName, Node, NodeNo, NodeTable, Variable};
 use unification::Ask;
 
-// Nodes by their numbers: of use to tests alone, so each crate of tests has its own.
+// Nodes by their numbers. Each crate of tests has its own: they share only `terms`, where no other caller needs these.
 pub(crate) fn name(n: u16) -> Node {
     Node::Name(LocalName(n))
 }

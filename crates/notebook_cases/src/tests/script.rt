@@ -21,7 +21,7 @@ pub enum Step {
     Clears,
 }
 
-// Nodes by their numbers: of use to tests alone, so each crate of tests has its own.
+// Nodes by their numbers. Each crate of tests has its own: they share only `terms`, where no other caller needs these.
 pub(crate) fn name(n: u16) -> Node {
     Node::Name(LocalName(n))
 }
@@ -48,6 +48,7 @@ pub(crate) fn seal(body: u16, key: u16) -> Node {
     }
 }
 
+// A step is data, a row of which is a script; so there is a match, and no function in a row.
 fn holds<N: Notebook>(book: &mut N, step: Step) -> bool {
     match step {
         Step::Puts(node, place) => book.put(node) == Ok(NodeNo(place)),

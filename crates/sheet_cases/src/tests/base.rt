@@ -104,7 +104,7 @@ pub enum Place {
 }
 
 impl Place {
-    // The number of the next record.
+    // The number of the next record: so many come before it.
     pub fn record(self) -> usize {
         match self {
             Place::Start => 0,
