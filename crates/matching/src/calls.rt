@@ -71,12 +71,12 @@ impl Matching {
         ensures answer { Matches (nodes_of self.old) (bound self.old) a.0 b.0 result (bound self.new) }
         ensures nodes { nodes_of self.new ≡ nodes_of self.old }
     {
-        let n = self.solver.nodes.len();
-        if a.0 as usize >= n || b.0 as usize >= n {
+        if !self.solver.nodes.contains(a) || !self.solver.nodes.contains(b) {
             return Err(MatchFault::NoSuchNode);
         }
         let before = self.solver.bindings.len();
-        let yes = self.solver.run(&mut self.asks, a, b);
+        let ask = Ask { left: a, right: b };
+        let yes = self.solver.run(&mut self.asks, ask);
         self.solver.classes.reset();
         if !yes {
             self.solver.bindings.cut(before);

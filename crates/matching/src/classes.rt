@@ -64,23 +64,16 @@ impl Classes {
         self.parents[root.0 as usize] = parent;
     }
 
-    // Makes the classes of c and d one; then their parts wait, the second on top.
-    pub(crate) fn join(
-        &mut self,
-        asks: &mut Stack<'_, Ask>,
-        c: NodeNo,
-        d: NodeNo,
-        first: Ask,
-        second: Ask,
-    )
-        requires left { c.0 < vec_len self.old.parents }
-        requires right { d.0 < vec_len self.old.parents }
+    // Makes the classes of the two nodes of a pair one; then their parts wait, the second on top.
+    pub(crate) fn join(&mut self, asks: &mut Stack<'_, Ask>, w: Ask, first: Ask, second: Ask)
+        requires left { w.left.0 < vec_len self.old.parents }
+        requires right { w.right.0 < vec_len self.old.parents }
         requires free { length (waiting asks.old) + 1 + heads 0 self.old.parents.items ≤ room asks.old }
-        ensures joined { Known self.old.parents.items (waiting asks.old) c.0 d.0 self.new.parents.items (waiting asks.new) ⊎ United self.old.parents.items (waiting asks.old) c.0 d.0 first second self.new.parents.items (waiting asks.new) }
+        ensures joined { Known self.old.parents.items (waiting asks.old) w.left.0 w.right.0 self.new.parents.items (waiting asks.new) ⊎ United self.old.parents.items (waiting asks.old) w.left.0 w.right.0 first second self.new.parents.items (waiting asks.new) }
         ensures size { room asks.new ≡ room asks.old }
     {
-        let i = self.find(c);
-        let j = self.find(d);
+        let i = self.find(w.left);
+        let j = self.find(w.right);
         if i == j {
             return;
         }

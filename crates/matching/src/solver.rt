@@ -7,7 +7,7 @@ ghost use Rattle.unification.specs.Steps.{heads, Stepped, Matched};
 use crate::bindings::Bindings;
 use crate::classes::{Classes, wait};
 use stack::Stack;
-use terms::{NodeNo, NodeTable};
+use terms::NodeTable;
 use unification::{Ask, Binding, Compared, compare};
 
 // The nodes, the bindings so far, and which nodes have to be equal.
@@ -22,7 +22,8 @@ pub struct Solver {
 
 impl Solver {
     // One waiting pair: yes, and what it asks is bound or waits; or no. The stack is over the caller's memory, so it is
-    // handed in; that a number is some node's is said of numbers, since no type of one table's nodes is plainer.
+    // handed in; that a number is some node's is said of numbers, since no type of one table's nodes is plainer. That the
+    // nodes and the room of the stack stay is in each contract; a solver that borrowed the nodes would have to say it too.
     fn step(&mut self, asks: &mut Stack<'_, Ask>, w: Ask) -> bool
         requires left { w.left.0 < length self.old.nodes.nodes.items }
         requires right { w.right.0 < length self.old.nodes.nodes.items }
@@ -46,23 +47,24 @@ impl Solver {
                     .assign(&self.nodes, Binding { variable, node: c })
             }
             Compared::Parts { first, second } => {
-                self.classes.join(asks, c, d, first, second);
+                self.classes
+                    .join(asks, Ask { left: c, right: d }, first, second);
                 true
             }
         }
     }
 
-    // Matches a and b; on no, some bindings may be left at the end.
-    pub(crate) fn run(&mut self, memory: &mut [Ask], a: NodeNo, b: NodeNo) -> bool
+    // Matches the two nodes of a pair; on no, some bindings may be left at the end.
+    pub(crate) fn run(&mut self, memory: &mut [Ask], first: Ask) -> bool
         requires calm { vec_len self.old.classes.linked ≡ 0 }
-        requires left { a.0 < length self.old.nodes.nodes.items }
-        requires right { b.0 < length self.old.nodes.nodes.items }
+        requires left { first.left.0 < length self.old.nodes.nodes.items }
+        requires right { first.right.0 < length self.old.nodes.nodes.items }
         requires roomy { length self.old.nodes.nodes.items < length memory.old }
-        ensures answer { Matched self.old.nodes.nodes.items self.old.bindings.list.items a.0 b.0 self.new.bindings.list.items result }
+        ensures answer { Matched self.old.nodes.nodes.items self.old.bindings.list.items first.left.0 first.right.0 self.new.bindings.list.items result }
         ensures nodes { self.new.nodes.nodes.items ≡ self.old.nodes.nodes.items }
     {
         let mut asks = Stack::new(memory);
-        wait(&mut asks, Ask { left: a, right: b });
+        wait(&mut asks, first);
         while let Some(w) = asks.pop() {
             if !self.step(&mut asks, w) {
                 return false;

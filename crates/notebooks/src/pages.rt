@@ -37,8 +37,8 @@ impl Pages {
         self.list.len()
     }
 
-    // Whether a place is held. No type says so: a place is held by some pages and not by others, and each part of a node
-    // that is read would have to be made a held place again.
+    // Whether a place is held, asked here since pages are no NodeTable. No type says so: a place is held by some pages and
+    // not by others, and each part of a node that is read would have to be made a held place again.
     pub(crate) fn holds(&self, place: NodeNo) -> bool
         ensures { Decides result (place.0 < length (nodes_of self.now)) }
     {
@@ -99,11 +99,9 @@ impl Pages {
             (Node::Name(x), Node::Name(y)) => x == y,
             (Node::Env(x), Node::Env(y)) => x == y,
             (Node::Var(x), Node::Var(y)) => x == y,
-            (Node::Pair { left, right }, Node::Pair { left: l, right: r }) => {
-                self.same_place(left, l) && self.same_place(right, r)
-            }
-            (Node::Seal { body, key }, Node::Seal { body: b, key: k }) => {
-                self.same_place(body, b) && self.same_place(key, k)
+            (Node::Pair { left: c, right: d }, Node::Pair { left: e, right: f })
+            | (Node::Seal { body: c, key: d }, Node::Seal { body: e, key: f }) => {
+                self.same_place(c, e) && self.same_place(d, f)
             }
             _ => false,
         }

@@ -12,6 +12,9 @@ pub struct LocalName(pub u16);
 #[derive(Clone, Copy, Debug, PartialEq, Eq, PartialOrd, Ord)]
 pub struct EnvName(pub u16);
 
+// the number of a variable in a table or a set is below this, so that the variables of a term are the bits of a word
+pub(crate) const VARIABLES: u16 = 64;
+
 #[derive(Clone, Copy, Debug, PartialEq, Eq, PartialOrd, Ord)]
 pub struct Variable(pub u16);
 

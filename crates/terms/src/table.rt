@@ -6,7 +6,7 @@ ghost use Rattle.terms.specs.Sets.{set_of, sets, Gathered};
 ghost use Rattle.terms.specs.declared.node.Node.TheVariants.{Var};
 
 use crate::node::{Node, NodeFault};
-use crate::number::NodeNo;
+use crate::number::{NodeNo, VARIABLES};
 use crate::variables::VarSet;
 use std::alloc::{AllocError, Global};
 
@@ -71,7 +71,8 @@ impl NodeTable {
         self.variables.as_slice().get(n.0 as usize).copied()
     }
 
-    fn holds(&self, n: NodeNo) -> bool
+    // Whether a number is some node's.
+    pub fn contains(&self, n: NodeNo) -> bool
         ensures { Decides result (n.0 < length self.now.nodes.items) }
     {
         (n.0 as usize) < self.len()
@@ -82,8 +83,9 @@ impl NodeTable {
         ensures { Decides result (Below (length self.now.nodes.items) node) }
     {
         match node {
-            Node::Pair { left: a, right: b } | Node::Seal { body: a, key: b } => self.holds(a)
-                && self.holds(b),
+            Node::Pair { left: a, right: b } | Node::Seal { body: a, key: b } => {
+                self.contains(a) && self.contains(b)
+            }
             Node::Name(_) | Node::Env(_) | Node::Var(_) => true,
         }
     }
@@ -129,7 +131,7 @@ fn narrow(node: Node) -> bool
     ensures { Decides result (Narrow node) }
 {
     match node {
-        Node::Var(v) => v.0 < 64,
+        Node::Var(v) => v.0 < VARIABLES,
         _ => true,
     }
 }

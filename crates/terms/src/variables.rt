@@ -2,7 +2,7 @@
 ghost use Rattle.std.specs.Prelude.{◌≡◌, ℕ, ◌^◌, ◌<◌, ◌⊎◌, if◌then◌else◌, Decides, bit_or, nat_lt};
 ghost use Rattle.terms.specs.Bits.{In};
 
-use crate::number::Variable;
+use crate::number::{VARIABLES, Variable};
 
 #[derive(Clone, Copy, Debug, PartialEq, Eq)]
 pub struct VarSet(u64);
@@ -19,7 +19,7 @@ impl VarSet {
         ensures value { result.0 ≡ (if nat_lt v.0 64 then bit_or self.0 (2 ^ v.0) else self.0) }
         ensures members { (x : ℕ) → (In x result.0 → In x self.0 ⊎ ((x ≡ v.0) × (x < 64))) × (In x self.0 ⊎ ((x ≡ v.0) × (x < 64)) → In x result.0) }
     {
-        if v.0 < 64 {
+        if v.0 < VARIABLES {
             VarSet(self.0 | 1 << v.0)
         } else {
             self
@@ -35,7 +35,7 @@ impl VarSet {
     pub fn contains(self, v: Variable) -> bool
         ensures { Decides result (In v.0 self.0) }
     {
-        v.0 < 64 && (self.0 >> v.0) & 1 == 1
+        v.0 < VARIABLES && (self.0 >> v.0) & 1 == 1
     }
 
     pub fn is_subset(self, other: VarSet) -> bool

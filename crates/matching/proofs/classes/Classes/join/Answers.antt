@@ -11,7 +11,7 @@ use Rattle.matching.proofs.classes.Classes.join.Goals as goal
 pub returns-then-eq-clause-joined : goal.returns-then-eq-clause-joined
 returns-then-eq-clause-joined c =
     let same = eqb-true c.find-i.result.0 c.find-j.result.0 (sym c.eq.ensures ∙ c.if-eq.true) in
-    inl (known (vec_items c.args.self.now.parents) (waiting c.args.asks.now) c.args.c.0 c.args.d.0 c.args.first c.args.second c.find-i.result.0 c.find-j.result.0 c.find-i.ensures.way c.find-j.ensures.way same)
+    inl (known (vec_items c.args.self.now.parents) (waiting c.args.asks.now) c.args.w.left.0 c.args.w.right.0 c.args.first c.args.second c.find-i.result.0 c.find-j.result.0 c.find-i.ensures.way c.find-j.ensures.way same)
 
 pub wait-requires-2 : goal.wait-requires-2
 wait-requires-2 c =
@@ -27,7 +27,7 @@ returns-then-lt-clause-joined c =
     let W : List Ask = waiting c.args.asks.now in
     let test = sym c.lt.ensures ∙ c.if-lt.true in
     let lower : c.find-i.result.0 < c.find-j.result.0 = grind (arith, nat_tests) in
-    let u = united_right P W c.args.c.0 c.args.d.0 c.args.first c.args.second c.find-i.result c.find-j.result.0 (waiting c.wait.new.asks) (waiting c.wait-2.new.asks) c.find-i.ensures.way c.find-j.ensures.way lower (omega (arith, s.parents.ok.0, c.find-j.ensures.low, c.requires.right)) c.find-j.ensures.root c.wait.ensures.items c.wait-2.ensures.items in
+    let u = united_right P W c.args.w.left.0 c.args.w.right.0 c.args.first c.args.second c.find-i.result c.find-j.result.0 (waiting c.wait.new.asks) (waiting c.wait-2.new.asks) c.find-i.ensures.way c.find-j.ensures.way lower (omega (arith, s.parents.ok.0, c.find-j.ensures.low, c.requires.right)) c.find-j.ensures.root c.wait.ensures.items c.wait-2.ensures.items in
     inr (rw c.link.ensures u)
 
 pub returns-else-lt-clause-joined : goal.returns-else-lt-clause-joined
@@ -38,5 +38,5 @@ returns-else-lt-clause-joined c =
     let test = sym c.lt.ensures ∙ c.if-lt.false in
     let other = eqb-false c.find-i.result.0 c.find-j.result.0 (sym c.eq.ensures ∙ c.if-eq.false) in
     let lower : c.find-j.result.0 < c.find-i.result.0 = grind (arith, nat_tests) in
-    let u = united_left P W c.args.c.0 c.args.d.0 c.args.first c.args.second c.find-i.result.0 c.find-j.result (waiting c.wait.new.asks) (waiting c.wait-2.new.asks) c.find-i.ensures.way c.find-j.ensures.way lower (omega (arith, s.parents.ok.0, c.find-i.ensures.low, c.requires.left)) c.find-i.ensures.root c.wait.ensures.items c.wait-2.ensures.items in
+    let u = united_left P W c.args.w.left.0 c.args.w.right.0 c.args.first c.args.second c.find-i.result.0 c.find-j.result (waiting c.wait.new.asks) (waiting c.wait-2.new.asks) c.find-i.ensures.way c.find-j.ensures.way lower (omega (arith, s.parents.ok.0, c.find-i.ensures.low, c.requires.left)) c.find-i.ensures.root c.wait.ensures.items c.wait-2.ensures.items in
     inr (rw c.link-else-lt.ensures u)

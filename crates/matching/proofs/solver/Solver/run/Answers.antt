@@ -9,8 +9,8 @@ use Rattle.matching.proofs.solver.Solver.run.Goals as goal
 use Rattle.matching.proofs.solver.Solver.run.Goals.{After-wait, After-step}
 
 -- the one pair that waits at the start
-first : (c : After-wait) → waiting c.wait.new.asks ≡ ask c.args.a.0 c.args.b.0 ∷ []
-first c = c.wait.ensures.items ∙ ap (λ (W : List Ask). W ++ (ask c.args.a.0 c.args.b.0 ∷ [])) c.new-asks.ensures.empty
+first : (c : After-wait) → waiting c.wait.new.asks ≡ ask c.args.first.left.0 c.args.first.right.0 ∷ []
+first c = c.wait.ensures.items ∙ ap (λ (W : List Ask). W ++ (ask c.args.first.left.0 c.args.first.right.0 ∷ [])) c.new-asks.ensures.empty
 
 -- a step, of the nodes that there were at the start
 stepped : (c : After-step) → Stepped (vec_items c.args.self.now.nodes.nodes) (vec_items c.loop-w.self.bindings.list) (vec_items c.loop-w.self.classes.parents) (waiting c.pop.new.self) c.in-Some.w (vec_items c.step.new.self.bindings.list) (vec_items c.step.new.self.classes.parents) (waiting c.step.new.asks) c.step.result
@@ -21,7 +21,7 @@ returns-then-not-step c =
     let s = c.args.self.now in
     let d = goal.at.returns-then-not-step c in
     record {
-      answer = running_stops (vec_items s.nodes.nodes) (vec_items s.bindings.list) (waiting c.wait.new.asks) (vec_items c.loop-w.self.bindings.list) (vec_items c.step.new.self.bindings.list) (vec_items c.loop-w.self.classes.parents) (vec_items c.step.new.self.classes.parents) (waiting c.loop-w.asks) (waiting c.pop.new.self) (waiting c.step.new.asks) c.in-Some.w c.step.result c.args.a.0 c.args.b.0 (first d.After-wait) (stepped d.After-step) c.in-Some.ensures.items c.if-not-step.true c.loop-w.invariant.running;
+      answer = running_stops (vec_items s.nodes.nodes) (vec_items s.bindings.list) (waiting c.wait.new.asks) (vec_items c.loop-w.self.bindings.list) (vec_items c.step.new.self.bindings.list) (vec_items c.loop-w.self.classes.parents) (vec_items c.step.new.self.classes.parents) (waiting c.loop-w.asks) (waiting c.pop.new.self) (waiting c.step.new.asks) c.in-Some.w c.step.result c.args.first.left.0 c.args.first.right.0 (first d.After-wait) (stepped d.After-step) c.in-Some.ensures.items c.if-not-step.true c.loop-w.invariant.running;
       nodes = c.step.ensures.nodes ∙ c.loop-w.invariant.nodes;
     }
 
@@ -38,6 +38,6 @@ pub returns : goal.returns
 returns c =
     let s = c.args.self.now in
     record {
-      answer = running_ends (vec_items s.nodes.nodes) (vec_items s.bindings.list) (waiting c.wait.new.asks) c.args.a.0 c.args.b.0 (vec_items c.loop-w.self.bindings.list) (vec_items c.loop-w.self.classes.parents) (waiting c.loop-w.asks) (first (goal.at.returns c).After-wait) c.in_default.ensures.items.0 c.loop-w.invariant.running;
+      answer = running_ends (vec_items s.nodes.nodes) (vec_items s.bindings.list) (waiting c.wait.new.asks) c.args.first.left.0 c.args.first.right.0 (vec_items c.loop-w.self.bindings.list) (vec_items c.loop-w.self.classes.parents) (waiting c.loop-w.asks) (first (goal.at.returns c).After-wait) c.in_default.ensures.items.0 c.loop-w.invariant.running;
       nodes = c.loop-w.invariant.nodes;
     }
