@@ -1,5 +1,5 @@
 -- Steps and actions over terms, and what a step binds and uses.
-use Rattle.std.specs.Prelude.{◌≡◌, ℕ, ◌<◌, ◌⊎◌, List, [], slice_index_or}
+use Rattle.std.specs.Prelude.{◌≡◌, ℕ, ◌<◌, ◌⊎◌, List, [], take, slice_index_or}
 use Rattle.std.proofs.Math.Option.{some}
 use Rattle.std.proofs.Math.ListN.{get_elem?}
 use Rattle.terms.specs.Terms.{Term, name, env, var, pair, seal, Vars}
@@ -7,6 +7,11 @@ use Rattle.terms.specs.Nodes.{term}
 use Rattle.terms.specs.declared.node.Node.{Node}
 use Rattle.protocol.specs.declared.step.Step.{Step}
 use Rattle.protocol.specs.declared.step.Step.TheVariants.{Input, Output, Open, Split, Same}
+use Rattle.protocol.specs.declared.strand.Strand.{Strand}
+
+-- the steps of a strand, in their order
+abbrev pub steps_of : Strand → List Step
+steps_of s = take s.len s.steps
 
 -- input: label, variable. output: label, term. opens: subject, the body's variable, key.
 -- splits: subject, the variables of the halves. same: two terms.

@@ -1,5 +1,5 @@
 // A strand: at most sixteen steps, in their order.
-ghost use Rattle.std.specs.Prelude.{◌≡◌, ℕ, ◌<◌, ◌≤◌, [], ◌∷◌, ◌++◌, length, take, MatchOption};
+ghost use Rattle.std.specs.Prelude.{◌≡◌, ◌<◌, ◌≤◌, [], ◌∷◌, ◌++◌, length, MatchOption};
 
 use crate::step::Step;
 use terms::NodeNo;
@@ -14,8 +14,10 @@ pub struct Strand {
 }
 
 impl Strand {
+    ghost use Rattle.protocol.specs.Strands.{steps_of};
+
     pub fn empty() -> Strand
-        ensures { take result.len result.steps ≡ [] }
+        ensures { steps_of result ≡ [] }
     {
         let unused = Step::Same {
             left: NodeNo(0),
@@ -28,14 +30,14 @@ impl Strand {
     }
 
     pub fn steps(&self) -> &[Step]
-        ensures { result.now ≡ take self.now.len self.now.steps }
+        ensures { result.now ≡ steps_of self.now }
     {
         &self.steps[..self.len]
     }
 
     // The strand with one step more, or none where it has sixteen.
     pub fn with(self, step: Step) -> Option<Strand>
-        ensures { MatchOption result (length (take self.len self.steps) ≡ 16) (λ s. (length (take self.len self.steps) < 16) × (take s.len s.steps ≡ take self.len self.steps ++ (step ∷ []))) }
+        ensures { MatchOption result (length (steps_of self) ≡ 16) (λ s. (length (steps_of self) < 16) × (steps_of s ≡ steps_of self ++ (step ∷ []))) }
     {
         if self.len == self.steps.len() {
             return None;

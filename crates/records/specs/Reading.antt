@@ -10,6 +10,10 @@ use Rattle.records.specs.Bytes.{Rec, encode, encode_all, CutOff}
 abbrev pub rest : Records → List ℕ
 rest s = s.rest.now
 
+-- how many records have been handed out
+abbrev pub handed_out : Records → ℕ
+handed_out s = s.count
+
 abbrev pub rec_of : Record → Rec
 rec_of x = record { kind = x.kind; body = x.body.now }
 

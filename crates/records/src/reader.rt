@@ -13,9 +13,11 @@ pub struct Records<'a> {
 }
 
 impl Records<'_> {
+    ghost use Rattle.records.specs.Reading.{handed_out};
+
     // How many records have been handed out.
     pub fn count(&self) -> usize
-        ensures { result ≡ self.now.count }
+        ensures { result ≡ handed_out self.now }
     {
         self.count
     }

@@ -2,7 +2,7 @@
 ghost use Rattle.std.specs.Prelude.{◌≡◌, ℕ, ◌<◌, ◌≤◌, true, [], ◌∷◌, ◌++◌, map, length, IfOk, vec_len, Decides, bit_or};
 ghost use Rattle.terms.specs.Bits.{varset};
 ghost use Rattle.terms.specs.Nodes.{ordered?, node, says, term, Below, Narrow, Found, Pushed, Unfolds};
-ghost use Rattle.terms.specs.Sets.{set_of, sets, Gathered};
+ghost use Rattle.terms.specs.Sets.{bits, set_of, sets, Gathered};
 ghost use Rattle.terms.specs.declared.node.Node.TheVariants.{Var};
 
 use crate::node::{Node, NodeFault};
@@ -27,7 +27,9 @@ pub fn terms_unfold()
 
 // A table with the same nodes.
 impl Clone for NodeTable {
-    ghost is_clone = { λ t u. u.nodes.items ≡ t.nodes.items };
+    ghost use Rattle.terms.specs.Tables.{nodes_in};
+
+    ghost is_clone = { λ t u. nodes_in u ≡ nodes_in t };
 
     fn clone(&self) -> Result<NodeTable, AllocError> {
         let nodes = self.nodes.clone()?;
@@ -37,8 +39,10 @@ impl Clone for NodeTable {
 }
 
 impl NodeTable {
+    ghost use Rattle.terms.specs.Tables.{nodes_in};
+
     pub fn new(heap: Global) -> NodeTable
-        ensures { result.nodes.items ≡ [] }
+        ensures { nodes_in result ≡ [] }
     {
         NodeTable {
             nodes: Vec::new(heap),
@@ -47,40 +51,40 @@ impl NodeTable {
     }
 
     pub fn len(&self) -> usize
-        ensures { result ≡ length self.now.nodes.items }
+        ensures { result ≡ length (nodes_in self.now) }
     {
         self.nodes.len()
     }
 
     pub fn as_slice(&self) -> &[Node]
-        ensures { result.now ≡ self.now.nodes.items }
+        ensures { result.now ≡ nodes_in self.now }
     {
         self.nodes.as_slice()
     }
 
     pub fn get(&self, n: NodeNo) -> Option<Node>
-        ensures { Found self.now.nodes.items n.0 result }
+        ensures { Found (nodes_in self.now) n.0 result }
     {
         self.as_slice().get(n.0 as usize).copied()
     }
 
     // The variables of the term of a node.
     pub fn variables(&self, n: NodeNo) -> Option<VarSet>
-        ensures { Gathered self.now.nodes.items n.0 result }
+        ensures { Gathered (nodes_in self.now) n.0 result }
     {
         self.variables.as_slice().get(n.0 as usize).copied()
     }
 
     // Whether a number is some node's.
     pub fn contains(&self, n: NodeNo) -> bool
-        ensures { Decides result (n.0 < length self.now.nodes.items) }
+        ensures { Decides result (n.0 < length (nodes_in self.now)) }
     {
         (n.0 as usize) < self.len()
     }
 
     // Whether each reference of a node is to a node of the table.
     fn has_parts(&self, node: Node) -> bool
-        ensures { Decides result (Below (length self.now.nodes.items) node) }
+        ensures { Decides result (Below (length (nodes_in self.now)) node) }
     {
         match node {
             Node::Pair { left: a, right: b } | Node::Seal { body: a, key: b } => {
@@ -92,8 +96,8 @@ impl NodeTable {
 
     // The variables of the term that a node would have in the table.
     fn gather(&self, node: Node) -> VarSet
-        requires { (Below (length self.now.nodes.items) node) × (Narrow node) }
-        ensures { result ≡ set_of (says (term self.now.nodes.items) node) }
+        requires { (Below (length (nodes_in self.now)) node) × (Narrow node) }
+        ensures { result ≡ set_of (says (term (nodes_in self.now)) node) }
     {
         match node {
             Node::Name(_) | Node::Env(_) => VarSet::empty(),
@@ -103,15 +107,15 @@ impl NodeTable {
     }
 
     fn join(&self, a: NodeNo, b: NodeNo) -> VarSet
-        requires { (a.0 < length self.now.nodes.items) × (b.0 < length self.now.nodes.items) }
-        ensures { result.0 ≡ bit_or (varset (term self.now.nodes.items a.0)) (varset (term self.now.nodes.items b.0)) }
+        requires { (a.0 < length (nodes_in self.now)) × (b.0 < length (nodes_in self.now)) }
+        ensures { bits result ≡ bit_or (varset (term (nodes_in self.now) a.0)) (varset (term (nodes_in self.now) b.0)) }
     {
         self.variables[a.0 as usize].union(self.variables[b.0 as usize])
     }
 
     // One node more, where its references are to nodes of the table and its variable is below 64.
     pub fn push(&mut self, node: Node) -> Result<(), NodeFault>
-        ensures { Pushed self.old.nodes.items node result self.new.nodes.items }
+        ensures { Pushed (nodes_in self.old) node result (nodes_in self.new) }
     {
         if !self.has_parts(node) {
             return Err(NodeFault::Reference);

@@ -1,7 +1,7 @@
 // What the reader does.
 ghost use Rattle.std.specs.Prelude.{◌≡◌, ℕ, List, ◌++◌, MatchOption};
 ghost use Rattle.records.specs.Bytes.{Rec, encode};
-ghost use Rattle.records.specs.Reading.{rest, rec_of, Next, Scanned, OneScan};
+ghost use Rattle.records.specs.Reading.{rest, handed_out, rec_of, Next, Scanned, OneScan};
 
 use crate::reader::Records;
 use crate::record::{FileFault, Record};
@@ -22,7 +22,7 @@ fn front<'a>(bytes: &'a [u8]) -> Option<(Record<'a>, &'a [u8])>
 impl<'a> Records<'a> {
     pub fn new(bytes: &'a [u8]) -> Records<'a>
         ensures left { rest result ≡ bytes.now }
-        ensures count { result.count ≡ 0 }
+        ensures count { handed_out result ≡ 0 }
     {
         Records {
             rest: bytes,
@@ -32,7 +32,7 @@ impl<'a> Records<'a> {
 
     // The next record, or none at the end of the bytes.
     pub fn next(&mut self) -> Result<Option<Record<'a>>, FileFault>
-        ensures { Next (rest self.old) self.old.count result (rest self.new) self.new.count }
+        ensures { Next (rest self.old) (handed_out self.old) result (rest self.new) (handed_out self.new) }
     {
         if self.rest.is_empty() {
             return Ok(None);
