@@ -92,12 +92,12 @@ fn is_made_of_its_records(rt: HostRuntime) -> Result<(), Fail> {
 
 // one to three bytes more, and a whole record
 const MORE: [Case<'static>; 6] = [
-    Case(&[Entry::Bytes(&[0])], 1, 6),
-    Case(&[Entry::Bytes(&[0, 0])], 1, 6),
-    Case(&[Entry::Bytes(&[0, 0, 0])], 1, 6),
-    Case(&[Entry::Bytes(&[0, 0, 0, 0])], 2, 6),
-    Case(&[Entry::Strand], 2, 6),
-    Case(&[Entry::Bytes(FIRST)], 2, 6),
+    Case(&[Entry::Bytes(&[0])], refused!(1, 6)),
+    Case(&[Entry::Bytes(&[0, 0])], refused!(1, 6)),
+    Case(&[Entry::Bytes(&[0, 0, 0])], refused!(1, 6)),
+    Case(&[Entry::Bytes(&[0, 0, 0, 0])], refused!(2, 6)),
+    Case(&[Entry::Strand], refused!(2, 6)),
+    Case(&[Entry::Bytes(FIRST)], refused!(2, 6)),
 ];
 
 #[test]

@@ -66,10 +66,10 @@ fn no_node_of_itself(rt: HostRuntime) -> Result<(), Fail> {
 
 // where nothing is declared
 const UNDECLARED: [Case<'static>; 4] = [
-    Case(&[Node(NAME, 0, 0)], 5, 0),
-    Case(&[Node(VARIABLE, 0, 0)], 5, 0),
-    Case(&[Variable(b"x"), Node(NAME, 0, 0)], 5, 1),
-    Case(&[Name(b"n"), Node(VARIABLE, 0, 0)], 5, 1),
+    Case(&[Node(NAME, 0, 0)], refused!(5, 0)),
+    Case(&[Node(VARIABLE, 0, 0)], refused!(5, 0)),
+    Case(&[Variable(b"x"), Node(NAME, 0, 0)], refused!(5, 1)),
+    Case(&[Name(b"n"), Node(VARIABLE, 0, 0)], refused!(5, 1)),
 ];
 
 #[test]
@@ -135,8 +135,8 @@ fn a_tower_of_names(rt: HostRuntime) -> Result<(), Fail> {
 
 const HIGH_BAD: [Case<'static>; 3] = [
     // x is not bound
-    Case(&[Strand, Step(OUTPUT, 0, 255)], 7, 260),
-    Case(&[Strand, Step(SAME, 254, 255)], 7, 260),
+    Case(&[Strand, Step(OUTPUT, 0, 255)], refused!(7, 260)),
+    Case(&[Strand, Step(SAME, 254, 255)], refused!(7, 260)),
     // x is bound, and stands in the property
     Case(
         &[
@@ -145,8 +145,7 @@ const HIGH_BAD: [Case<'static>; 3] = [
             Step(OUTPUT, 0, 255),
             Property(HIGH),
         ],
-        8,
-        262,
+        refused!(8, 262),
     ),
 ];
 

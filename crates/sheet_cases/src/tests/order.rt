@@ -48,19 +48,22 @@ fn before_a_strand(rt: HostRuntime) -> Result<(), Fail> {
 
 // each kind of text after each later kind, where nothing else is before it
 const TEXTS_LATE: [Case<'static>; 12] = [
-    Case(&[Name(b"n"), Label(b"a")], 2, 1),
-    Case(&[Variable(b"x"), Label(b"a")], 2, 1),
-    Case(&[Variable(b"x"), Name(b"n")], 2, 1),
-    Case(&[Name(b"n"), Node(NAME, 0, 0), Label(b"a")], 2, 2),
-    Case(&[Name(b"n"), Node(NAME, 0, 0), Name(b"k")], 2, 2),
-    Case(&[Name(b"n"), Node(NAME, 0, 0), Variable(b"x")], 2, 2),
-    Case(&[Strand, Label(b"a")], 2, 1),
-    Case(&[Strand, Name(b"n")], 2, 1),
-    Case(&[Strand, Variable(b"x")], 2, 1),
+    Case(&[Name(b"n"), Label(b"a")], refused!(2, 1)),
+    Case(&[Variable(b"x"), Label(b"a")], refused!(2, 1)),
+    Case(&[Variable(b"x"), Name(b"n")], refused!(2, 1)),
+    Case(&[Name(b"n"), Node(NAME, 0, 0), Label(b"a")], refused!(2, 2)),
+    Case(&[Name(b"n"), Node(NAME, 0, 0), Name(b"k")], refused!(2, 2)),
+    Case(
+        &[Name(b"n"), Node(NAME, 0, 0), Variable(b"x")],
+        refused!(2, 2),
+    ),
+    Case(&[Strand, Label(b"a")], refused!(2, 1)),
+    Case(&[Strand, Name(b"n")], refused!(2, 1)),
+    Case(&[Strand, Variable(b"x")], refused!(2, 1)),
     // the same, where the text would be refused 4
-    Case(&[Name(b"n"), Label(b"")], 2, 1),
-    Case(&[Variable(b"x"), Label(b" ")], 2, 1),
-    Case(&[Variable(b"x"), Name(b"\x7f")], 2, 1),
+    Case(&[Name(b"n"), Label(b"")], refused!(2, 1)),
+    Case(&[Variable(b"x"), Label(b" ")], refused!(2, 1)),
+    Case(&[Variable(b"x"), Name(b"\x7f")], refused!(2, 1)),
 ];
 
 #[test]

@@ -54,10 +54,16 @@ const NEVER_Y: [u16; 6] = [NONE, 0, 0, OUTPUT, 0, Y];
 
 // whichever step of whichever strand binds y
 const BOUND: [Case<'static>; 4] = [
-    Case(&[Step(INPUT, 0, 1), Property(NEVER_Y)], 8, 29),
-    Case(&[Step(SPLIT, N, XY), Property(NEVER_Y)], 8, 29),
-    Case(&[Step(INPUT, 0, 1), Strand, Property(NEVER_Y)], 8, 30),
-    Case(&[Strand, Step(SPLIT, N, YZ), Property(NEVER_Y)], 8, 30),
+    Case(&[Step(INPUT, 0, 1), Property(NEVER_Y)], refused!(8, 29)),
+    Case(&[Step(SPLIT, N, XY), Property(NEVER_Y)], refused!(8, 29)),
+    Case(
+        &[Step(INPUT, 0, 1), Strand, Property(NEVER_Y)],
+        refused!(8, 30),
+    ),
+    Case(
+        &[Strand, Step(SPLIT, N, YZ), Property(NEVER_Y)],
+        refused!(8, 30),
+    ),
 ];
 
 #[test]

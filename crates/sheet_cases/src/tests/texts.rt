@@ -31,7 +31,7 @@ fn expect_bad<R: Abort>(t: &Tester<'_, R>, text: &[u8], i: usize) -> Result<(), 
         let mut file = SheetFile::new(t.heap);
         file.record(kind, text)?;
         let reply = reply_to(t.heap, file.as_bytes())?;
-        assert_eq!(t.rt; reply, refused(4, 0), "text {i}, kind {kind}");
+        assert_eq!(t.rt; reply, Err(refused!(4, 0)), "text {i}, kind {kind}");
     }
     Ok(())
 }
