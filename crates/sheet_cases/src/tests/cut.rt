@@ -34,10 +34,7 @@ const CUT: [Entry<'static>; 16] = [
 
 #[test]
 fn at_every_place_of_the_order(rt: HostRuntime) -> Result<(), Fail> {
-    let t = Tester {
-        rt: &rt,
-        heap: rt.alloc(),
-    };
+    let t = Tester::new(&rt);
     t.expect_each(
         &[Place::Start, Place::Texts, Place::Strand, Place::End],
         &CUT,
@@ -77,9 +74,8 @@ fn at_every_byte(rt: HostRuntime) -> Result<(), Fail> {
 // A length of two bytes: 256 is cut where 255 bytes follow, and whole where 256 do. No text is that long.
 #[test]
 fn at_a_long_body(rt: HostRuntime) -> Result<(), Fail> {
-    let heap = rt.alloc();
-    let t = Tester { rt: &rt, heap };
-    let mut file = SheetFile::new(heap);
+    let t = Tester::new(&rt);
+    let mut file = SheetFile::new(t.heap);
     file.raw(&[0, 1, 1, 0])?;
     file.raw(&[97; 255])?;
     t.expect(&file, Err(refused!(1, 0)))?;

@@ -69,10 +69,9 @@ fn expect_kept<R: Abort>(t: &Tester<'_, R>, sheet: &mut Sheet, bytes: &[u8]) -> 
 
 #[test]
 fn a_sheet_that_was_read(rt: HostRuntime) -> Result<(), Fail> {
-    let heap = rt.alloc();
-    let t = Tester { rt: &rt, heap };
-    let file = rich(heap)?;
-    let mut sheet = Sheet::new(heap)?;
+    let t = Tester::new(&rt);
+    let file = rich(t.heap)?;
+    let mut sheet = Sheet::new(t.heap)?;
     t.expect_into(&mut sheet, file.as_bytes(), Ok(()))?;
     t.expect_sheet(&sheet, file.as_bytes())?;
     expect_kept(&t, &mut sheet, file.as_bytes())
@@ -80,18 +79,16 @@ fn a_sheet_that_was_read(rt: HostRuntime) -> Result<(), Fail> {
 
 #[test]
 fn a_new_sheet(rt: HostRuntime) -> Result<(), Fail> {
-    let heap = rt.alloc();
-    let t = Tester { rt: &rt, heap };
-    let mut sheet = Sheet::new(heap)?;
+    let t = Tester::new(&rt);
+    let mut sheet = Sheet::new(t.heap)?;
     expect_kept(&t, &mut sheet, FIRST)
 }
 
 #[test]
 fn another_file_takes_its_place(rt: HostRuntime) -> Result<(), Fail> {
-    let heap = rt.alloc();
-    let t = Tester { rt: &rt, heap };
-    let file = rich(heap)?;
-    let mut sheet = Sheet::new(heap)?;
+    let t = Tester::new(&rt);
+    let file = rich(t.heap)?;
+    let mut sheet = Sheet::new(t.heap)?;
     t.expect_into(&mut sheet, file.as_bytes(), Ok(()))?;
     t.expect_into(&mut sheet, FIRST, Ok(()))?;
     t.expect_sheet(&sheet, FIRST)

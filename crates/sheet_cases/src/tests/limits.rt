@@ -154,10 +154,7 @@ fn expect_table<R: Abort>(t: &Tester<'_, R>, table: &Table, i: usize) -> Result<
 
 #[test]
 fn each_table(rt: HostRuntime) -> Result<(), Fail> {
-    let t = Tester {
-        rt: &rt,
-        heap: rt.alloc(),
-    };
+    let t = Tester::new(&rt);
     for (i, table) in TABLES.iter().enumerate() {
         expect_table(&t, table, i)?;
     }
@@ -191,9 +188,8 @@ const FULLEST_BAD: [Case<'static>; 4] = [
 
 #[test]
 fn all_at_once(rt: HostRuntime) -> Result<(), Fail> {
-    let heap = rt.alloc();
-    let t = Tester { rt: &rt, heap };
-    let file = fullest(heap)?;
+    let t = Tester::new(&rt);
+    let file = fullest(t.heap)?;
     t.expect_taken(&file, &FULLEST_GOOD, &[])?;
     t.expect_cases(&file, &FULLEST_BAD, 0)
 }

@@ -31,6 +31,15 @@ pub struct Tester<'a, R> {
     pub heap: Global,
 }
 
+impl<'a, R: AllocGlobal> Tester<'a, R> {
+    pub fn new(rt: &'a R) -> Tester<'a, R> {
+        Tester {
+            rt,
+            heap: rt.alloc(),
+        }
+    }
+}
+
 impl<R: Abort> Tester<'_, R> {
     // The file, read into a new sheet, has this reply.
     pub fn expect(&self, file: &SheetFile, expected: Reply) -> Result<(), Fail> {

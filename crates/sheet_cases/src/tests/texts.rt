@@ -38,10 +38,7 @@ fn expect_bad<R: Abort>(t: &Tester<'_, R>, text: &[u8], i: usize) -> Result<(), 
 
 #[test]
 fn bad_texts(rt: HostRuntime) -> Result<(), Fail> {
-    let t = Tester {
-        rt: &rt,
-        heap: rt.alloc(),
-    };
+    let t = Tester::new(&rt);
     for (i, text) in BAD.iter().enumerate() {
         expect_bad(&t, *text, i)?;
     }
@@ -70,10 +67,7 @@ fn expect_good<R: Abort>(t: &Tester<'_, R>, text: &[u8], i: usize) -> Result<(),
 
 #[test]
 fn good_texts(rt: HostRuntime) -> Result<(), Fail> {
-    let t = Tester {
-        rt: &rt,
-        heap: rt.alloc(),
-    };
+    let t = Tester::new(&rt);
     for (i, text) in GOOD.iter().enumerate() {
         expect_good(&t, *text, i)?;
     }

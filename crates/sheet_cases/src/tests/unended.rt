@@ -25,8 +25,7 @@ const LONG: [Case<'static>; 4] = [
 
 #[test]
 fn without_a_property(rt: HostRuntime) -> Result<(), Fail> {
-    let heap = rt.alloc();
-    let t = Tester { rt: &rt, heap };
-    t.expect_cases(&SheetFile::new(heap), &SHORT, 0)?;
-    t.expect_cases(&Place::Nodes.file(heap)?, &LONG, 0)
+    let t = Tester::new(&rt);
+    t.expect_cases(&SheetFile::new(t.heap), &SHORT, 0)?;
+    t.expect_cases(&Place::Nodes.file(t.heap)?, &LONG, 0)
 }

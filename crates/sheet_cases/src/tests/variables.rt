@@ -33,9 +33,8 @@ const TWICE: [Case<'static>; 10] = [
 
 #[test]
 fn bound_twice(rt: HostRuntime) -> Result<(), Fail> {
-    let heap = rt.alloc();
-    let t = Tester { rt: &rt, heap };
-    t.expect_cases(&Place::Strand.file(heap)?, &TWICE, 0)
+    let t = Tester::new(&rt);
+    t.expect_cases(&Place::Strand.file(t.heap)?, &TWICE, 0)
 }
 
 const EARLY: [Case<'static>; 16] = [
@@ -71,9 +70,8 @@ const EARLY: [Case<'static>; 16] = [
 
 #[test]
 fn used_too_soon(rt: HostRuntime) -> Result<(), Fail> {
-    let heap = rt.alloc();
-    let t = Tester { rt: &rt, heap };
-    t.expect_cases(&Place::Strand.file(heap)?, &EARLY, 0)
+    let t = Tester::new(&rt);
+    t.expect_cases(&Place::Strand.file(t.heap)?, &EARLY, 0)
 }
 
 const GOOD: [&'static [Entry<'static>]; 6] = [
@@ -97,7 +95,6 @@ const GOOD: [&'static [Entry<'static>]; 6] = [
 
 #[test]
 fn bound_in_time(rt: HostRuntime) -> Result<(), Fail> {
-    let heap = rt.alloc();
-    let t = Tester { rt: &rt, heap };
-    t.expect_taken(&Place::Strand.file(heap)?, &GOOD, &[Property(NEVER_N)])
+    let t = Tester::new(&rt);
+    t.expect_taken(&Place::Strand.file(t.heap)?, &GOOD, &[Property(NEVER_N)])
 }

@@ -33,9 +33,8 @@ const FIRST_FAULTS: [Case<'static>; 8] = [
 
 #[test]
 fn the_first_fault_counts(rt: HostRuntime) -> Result<(), Fail> {
-    let heap = rt.alloc();
-    let t = Tester { rt: &rt, heap };
-    t.expect_cases(&SheetFile::new(heap), &FIRST_FAULTS, 0)
+    let t = Tester::new(&rt);
+    t.expect_cases(&SheetFile::new(t.heap), &FIRST_FAULTS, 0)
 }
 
 // strands with no step, alone, before and after others
@@ -54,10 +53,9 @@ const EMPTY_STRANDS: [&'static [Entry<'static>]; 4] = [
 
 #[test]
 fn a_strand_may_be_empty(rt: HostRuntime) -> Result<(), Fail> {
-    let heap = rt.alloc();
-    let t = Tester { rt: &rt, heap };
+    let t = Tester::new(&rt);
     t.expect_taken(
-        &Place::Strand.file(heap)?,
+        &Place::Strand.file(t.heap)?,
         &EMPTY_STRANDS,
         &[Property(NEVER_N)],
     )
@@ -73,7 +71,6 @@ const NO_NAMES: [&'static [Entry<'static>]; 1] = [&[
 
 #[test]
 fn there_may_be_no_names(rt: HostRuntime) -> Result<(), Fail> {
-    let heap = rt.alloc();
-    let t = Tester { rt: &rt, heap };
-    t.expect_taken(&SheetFile::new(heap), &NO_NAMES, &[])
+    let t = Tester::new(&rt);
+    t.expect_taken(&SheetFile::new(t.heap), &NO_NAMES, &[])
 }
