@@ -83,16 +83,12 @@ impl fmt::Display for Written {
 
 // A line for each held place: its node, and whether it is derivable.
 fn list<N: Notebook>(rt: &HostRuntime, book: &N) -> io::Result<()> {
-    for i in 0..u16::MAX {
-        let Some(node) = book.read(NodeNo(i)) else {
-            break;
-        };
-        let answer = if book.derivable(NodeNo(i)) {
-            "yes"
-        } else {
-            "no"
-        };
-        println!(rt; "{i} {}: {answer}", Written(node))?;
+    let held = (0..u16::MAX)
+        .map(NodeNo)
+        .map_while(|place| book.read(place).map(|node| (place, node)));
+    for (place, node) in held {
+        let answer = if book.derivable(place) { "yes" } else { "no" };
+        println!(rt; "{} {}: {answer}", place.0, Written(node))?;
     }
     Ok(())
 }

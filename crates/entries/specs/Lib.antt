@@ -4,3 +4,4 @@ pub mod Rules
 pub mod Reading
 pub mod Growth
 pub mod Decoding
+pub mod Texts

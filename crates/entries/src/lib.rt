@@ -9,4 +9,4 @@ mod text;
 
 pub use entry::{Entry, Fields, PropertyFields, Unknown};
 pub use fault::{Rule, SheetFault};
-pub use text::Text;
+pub use text::{Text, text_at};

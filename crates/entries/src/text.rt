@@ -1,8 +1,9 @@
 // The text of a label, a name or a variable: 1 to 16 bytes from 33 to 126.
-ghost use Rattle.std.specs.Prelude.{◌≡◌, ◌≤◌, true, length, Decides, MatchOption, Some};
+ghost use Rattle.std.specs.Prelude.{◌≡◌, ◌≤◌, true, length, map, Decides, MatchOption, Some};
 ghost use Rattle.std.specs.Char.{is_ascii_graphic};
 ghost use Rattle.std.specs.List.{AllByRecursion, list_all};
 ghost use Rattle.protocol.specs.Lawful.{Text as IsText};
+ghost use Rattle.entries.specs.Texts.{text};
 
 use arrayvec::ArrayString;
 use std::{fmt, str};
@@ -47,6 +48,13 @@ impl fmt::Display for Text {
     fn fmt<W: fmt::Write>(&self, f: &mut fmt::Formatter<W>) -> fmt::Result {
         f.pad(self.as_str())
     }
+}
+
+// The text with this number, and nothing where there is none.
+pub fn text_at(texts: &[Text], number: u16) -> &str
+    ensures { result.now ≡ text (map (λ t. t.text.bytes) texts.now) number }
+{
+    texts.get(number as usize).map_or("", |t| t.as_str())
 }
 
 fn printable(bytes: &[u8]) -> bool

@@ -11,10 +11,7 @@ use Rattle.protocol.specs.declared.step.Direction.TheVariants as d
 use Rattle.protocol.specs.declared.step.Action.{Action}
 use Rattle.protocol.specs.declared.step.Property.{Property}
 use Rattle.protocol.specs.Lawful.{Content}
-
--- a text of a table
-abbrev pub text : List (List ℕ) → ℕ → List ℕ
-text ts i = slice_index_or ts i []
+use Rattle.entries.specs.Texts.{text}
 
 -- the number of a node
 abbrev pub mark : ℕ → List ℕ

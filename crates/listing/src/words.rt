@@ -1,11 +1,11 @@
 // The words for the parts of a sheet: its terms, nodes, steps and actions.
 ghost use Rattle.std.specs.Prelude.{◌≡◌, Some, map, string_bytes};
 ghost use Rattle.sheet.specs.Sheets.{content_of};
-ghost use Rattle.sheet.specs.View.{bytes_of};
-ghost use Rattle.listing.specs.Lines.{text, shown, written, step_words, direction_word, action_words, earlier_words};
+ghost use Rattle.entries.specs.Texts.{text};
+ghost use Rattle.listing.specs.Lines.{shown, written, step_words, direction_word, action_words, earlier_words};
 
 use protocol::{Action, Direction, Step};
-use sheet::{Sheet, Text};
+use sheet::{Sheet, text_at};
 use std::fmt;
 use terms::{Label, LocalName, Node, NodeNo, Variable};
 
@@ -52,13 +52,6 @@ impl<'a> Formed<'a> {
     {
         text_at(self.sheet.variables(), variable.0)
     }
-}
-
-// The text with the number i, and nothing where there is none.
-fn text_at<'a>(texts: &'a [Text], i: u16) -> &'a str
-    ensures { result.now ≡ text (map bytes_of texts.now) i }
-{
-    texts.get(i as usize).map_or("", |t| t.as_str())
 }
 
 // A term within a line: its form, or the number of its node where the form is too wide.

@@ -4,7 +4,7 @@
 use input::{LONGEST, read_input};
 use matching::{Binding, Matching, Trial};
 use protocol::{Step, Strand};
-use sheet::{Sheet, SheetFault, Text};
+use sheet::{Sheet, SheetFault, Text, text_at};
 use std::alloc::AllocError;
 use std::io;
 use terms::NodeNo;
@@ -21,9 +21,7 @@ fn sides(step: Step) -> Option<(NodeNo, NodeNo)> {
 }
 
 fn show_binding(rt: &HostRuntime, variables: &[Text], b: Binding) -> io::Result<()> {
-    let name = variables
-        .get(b.variable.0 as usize)
-        .map_or("", |t| t.as_str());
+    let name = text_at(variables, b.variable.0);
     println!(rt; "    {name} is node {}", b.node.0)
 }
 

@@ -10,6 +10,6 @@ mod refusal;
 mod sheet;
 mod tables;
 
-pub use entries::{Rule, SheetFault, Text};
+pub use entries::{Rule, SheetFault, Text, text_at};
 pub use sheet::Sheet;
 pub use tables::Tables;

@@ -31,6 +31,7 @@ pub fn reply_of(res: Result<(), SheetFault>) -> Result<Reply, AllocError>
 }
 
 // The reply to a file that is read into a new sheet.
+#[tactic(auto, using(crate::proofs::Replying::answered))]
 pub fn reply_to(heap: Global, bytes: &[u8]) -> Result<Reply, AllocError>
     ensures { IfOk result (Answers bytes.now) }
 {

@@ -28,7 +28,7 @@ fn a_seal_opens_once_its_key_is_given(rt: HostRuntime) -> Result<(), Fail> {
         Yes(D),
         Yes(K),
     ];
-    on_each(&rt, rt.alloc(), &steps)
+    Tester::new(&rt).on_each(&steps)
 }
 
 #[test]
@@ -47,7 +47,7 @@ fn halves_of_a_pair_and_their_pairs(rt: HostRuntime) -> Result<(), Fail> {
         Yes(4),
         No(5),
     ];
-    on_each(&rt, rt.alloc(), &steps)
+    Tester::new(&rt).on_each(&steps)
 }
 
 #[test]
@@ -65,7 +65,7 @@ fn nothing_local_is_derived_from_nothing(rt: HostRuntime) -> Result<(), Fail> {
         Yes(4),
         No(5),
     ];
-    on_each(&rt, rt.alloc(), &steps)
+    Tester::new(&rt).on_each(&steps)
 }
 
 // A name of the environment opens and seals without being noted.
@@ -82,5 +82,5 @@ fn names_of_the_environment_are_known(rt: HostRuntime) -> Result<(), Fail> {
         Yes(1),
         Yes(4),
     ];
-    on_each(&rt, rt.alloc(), &steps)
+    Tester::new(&rt).on_each(&steps)
 }

@@ -24,6 +24,7 @@ fn a_key_inside_another_seal_in_every_order(rt: HostRuntime) -> Result<(), Fail>
         [K, A_J, J_K],
         [K, J_K, A_J],
     ];
+    let t = Tester::new(&rt);
     for [x, y, z] in orders {
         let steps = [
             Puts(name(0), A),
@@ -39,7 +40,7 @@ fn a_key_inside_another_seal_in_every_order(rt: HostRuntime) -> Result<(), Fail>
             Yes(J),
             Yes(K),
         ];
-        on_each(&rt, rt.alloc(), &steps)?;
+        t.on_each(&steps)?;
     }
     Ok(())
 }
@@ -62,7 +63,7 @@ fn a_key_that_is_a_pair(rt: HostRuntime) -> Result<(), Fail> {
         No(4),
         Yes(5),
     ];
-    on_each(&rt, rt.alloc(), &steps)
+    Tester::new(&rt).on_each(&steps)
 }
 
 #[test]
@@ -79,5 +80,5 @@ fn a_key_that_is_a_seal(rt: HostRuntime) -> Result<(), Fail> {
         No(0),
         Yes(3),
     ];
-    on_each(&rt, rt.alloc(), &steps)
+    Tester::new(&rt).on_each(&steps)
 }

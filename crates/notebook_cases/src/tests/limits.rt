@@ -3,7 +3,6 @@ use crate::tests::script::Step::*;
 use crate::tests::script::*;
 use notebook::Notebook;
 use notebooks::{AskingNotebook, KeepingNotebook};
-use std::alloc::Global;
 use std::process::Abort;
 use std::test::Fail;
 
@@ -24,16 +23,15 @@ fn lawful_nodes_at_the_edge(rt: HostRuntime) -> Result<(), Fail> {
         Puts(seal(2, 2), 3),
         PutRefused(pair(0, 65535), 60),
     ];
-    on_each(&rt, rt.alloc(), &steps)
+    Tester::new(&rt).on_each(&steps)
 }
 
-fn full<N: Notebook + Drop>(rt: &impl Abort, heap: Global) -> Result<(), Fail> {
-    let mut book = N::new(heap)?;
+fn full<N: Notebook + Drop>(t: &Tester<'_, impl Abort>) -> Result<(), Fail> {
+    let mut book = N::new(t.heap)?;
     for i in 0..768u16 {
-        follow(rt, "notebook", &mut book, &[Puts(name(i % 64), i)])?;
+        t.follow("notebook", &mut book, &[Puts(name(i % 64), i)])?;
     }
-    follow(
-        rt,
+    t.follow(
         "notebook",
         &mut book,
         &[
@@ -47,10 +45,9 @@ fn full<N: Notebook + Drop>(rt: &impl Abort, heap: Global) -> Result<(), Fail> {
         ],
     )?;
     for _ in 0..128u16 {
-        follow(rt, "notebook", &mut book, &[No(0), Notes(767)])?;
+        t.follow("notebook", &mut book, &[No(0), Notes(767)])?;
     }
-    follow(
-        rt,
+    t.follow(
         "notebook",
         &mut book,
         &[
@@ -65,6 +62,7 @@ fn full<N: Notebook + Drop>(rt: &impl Abort, heap: Global) -> Result<(), Fail> {
 
 #[test]
 fn all_places_and_all_notes(rt: HostRuntime) -> Result<(), Fail> {
-    full::<AskingNotebook>(&rt, rt.alloc())?;
-    full::<KeepingNotebook>(&rt, rt.alloc())
+    let t = Tester::new(&rt);
+    full::<AskingNotebook>(&t)?;
+    full::<KeepingNotebook>(&t)
 }

@@ -18,7 +18,7 @@ fn what_is_put_is_read(rt: HostRuntime) -> Result<(), Fail> {
         Absent(4),
         Absent(65535),
     ];
-    on_each(&rt, rt.alloc(), &steps)
+    Tester::new(&rt).on_each(&steps)
 }
 
 #[test]
@@ -39,7 +39,7 @@ fn refusals_and_questions_change_nothing(rt: HostRuntime) -> Result<(), Fail> {
         No(0),
         No(2),
     ];
-    on_each(&rt, rt.alloc(), &steps)
+    Tester::new(&rt).on_each(&steps)
 }
 
 #[test]
@@ -62,5 +62,5 @@ fn clear_empties_both_lists(rt: HostRuntime) -> Result<(), Fail> {
         No(0),
         Yes(1),
     ];
-    on_each(&rt, rt.alloc(), &steps)
+    Tester::new(&rt).on_each(&steps)
 }

@@ -68,32 +68,44 @@ fn holds<N: Notebook>(book: &mut N, step: Step) -> bool {
     }
 }
 
-// Follows a script on a notebook of a kind, and says at which step a reply is another.
-pub(crate) fn follow<N: Notebook>(
-    rt: &impl Abort,
-    kind: &str,
-    book: &mut N,
-    steps: &[Step],
-) -> Result<(), Fail> {
-    for (i, step) in steps.iter().enumerate() {
-        assert!(rt; holds(book, *step), "{kind}, step {i}");
+// What every case needs: the handle that ends it where it fails, and memory.
+#[derive(Drop)]
+pub struct Tester<'a, R> {
+    pub rt: &'a R,
+    pub heap: Global,
+}
+
+impl<'a, R: AllocGlobal> Tester<'a, R> {
+    pub fn new(rt: &'a R) -> Tester<'a, R> {
+        Tester {
+            rt,
+            heap: rt.alloc(),
+        }
     }
-    Ok(())
 }
 
-// The handle and memory are handed on once; a struct of the two would be no plainer.
-fn follow_new<N: Notebook + Drop>(
-    rt: &impl Abort,
-    heap: Global,
-    kind: &str,
-    steps: &[Step],
-) -> Result<(), Fail> {
-    let mut book = N::new(heap)?;
-    follow(rt, kind, &mut book, steps)
-}
+impl<R: Abort> Tester<'_, R> {
+    // Follows a script on a notebook of a kind, and says at which step a reply is another.
+    pub fn follow<N: Notebook>(
+        &self,
+        kind: &str,
+        book: &mut N,
+        steps: &[Step],
+    ) -> Result<(), Fail> {
+        for (i, step) in steps.iter().enumerate() {
+            assert!(self.rt; holds(book, *step), "{kind}, step {i}");
+        }
+        Ok(())
+    }
 
-// Follows a script on a new notebook of each kind.
-pub(crate) fn on_each(rt: &impl Abort, heap: Global, steps: &[Step]) -> Result<(), Fail> {
-    follow_new::<AskingNotebook>(rt, heap, "asking", steps)?;
-    follow_new::<KeepingNotebook>(rt, heap, "keeping", steps)
+    fn follow_new<N: Notebook + Drop>(&self, kind: &str, steps: &[Step]) -> Result<(), Fail> {
+        let mut book = N::new(self.heap)?;
+        self.follow(kind, &mut book, steps)
+    }
+
+    // Follows a script on a new notebook of each kind.
+    pub fn on_each(&self, steps: &[Step]) -> Result<(), Fail> {
+        self.follow_new::<AskingNotebook>("asking", steps)?;
+        self.follow_new::<KeepingNotebook>("keeping", steps)
+    }
 }

@@ -3,7 +3,6 @@ use crate::tests::script::Step::*;
 use crate::tests::script::*;
 use notebook::Notebook;
 use notebooks::{AskingNotebook, KeepingNotebook};
-use std::alloc::Global;
 use std::process::Abort;
 use std::test::Fail;
 
@@ -32,7 +31,7 @@ fn one_term_at_two_places(rt: HostRuntime) -> Result<(), Fail> {
         Yes(7),
         Yes(8),
     ];
-    on_each(&rt, rt.alloc(), &steps)
+    Tester::new(&rt).on_each(&steps)
 }
 
 #[test]
@@ -47,23 +46,21 @@ fn a_local_name_is_no_name_of_the_environment(rt: HostRuntime) -> Result<(), Fai
         No(3),
         Yes(1),
     ];
-    on_each(&rt, rt.alloc(), &steps)
+    Tester::new(&rt).on_each(&steps)
 }
 
 // Each place is the pair of the one before with itself: the last term has 2^767 leaves.
-fn tower<N: Notebook + Drop>(rt: &impl Abort, heap: Global) -> Result<(), Fail> {
-    let mut book = N::new(heap)?;
-    follow(
-        rt,
+fn tower<N: Notebook + Drop>(t: &Tester<'_, impl Abort>) -> Result<(), Fail> {
+    let mut book = N::new(t.heap)?;
+    t.follow(
         "notebook",
         &mut book,
         &[Puts(name(0), 0), Puts(pair(0, 0), 1)],
     )?;
     for i in 1..767u16 {
-        follow(rt, "notebook", &mut book, &[Puts(pair(i, i), i + 1)])?;
+        t.follow("notebook", &mut book, &[Puts(pair(i, i), i + 1)])?;
     }
-    follow(
-        rt,
+    t.follow(
         "notebook",
         &mut book,
         &[No(767), Notes(1), Yes(0), Yes(767), Notes(767), Yes(400)],
@@ -72,6 +69,7 @@ fn tower<N: Notebook + Drop>(rt: &impl Abort, heap: Global) -> Result<(), Fail> 
 
 #[test]
 fn a_tower_of_pairs(rt: HostRuntime) -> Result<(), Fail> {
-    tower::<AskingNotebook>(&rt, rt.alloc())?;
-    tower::<KeepingNotebook>(&rt, rt.alloc())
+    let t = Tester::new(&rt);
+    tower::<AskingNotebook>(&t)?;
+    tower::<KeepingNotebook>(&t)
 }

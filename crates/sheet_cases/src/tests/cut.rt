@@ -34,10 +34,7 @@ const CUT: [Entry<'static>; 16] = [
 
 #[test]
 fn at_every_place_of_the_order(rt: HostRuntime) -> Result<(), Fail> {
-    let t = Tester {
-        rt: &rt,
-        heap: rt.alloc(),
-    };
+    let t = Tester::new(&rt);
     t.expect_each(
         &[Place::Start, Place::Texts, Place::Strand, Place::End],
         &CUT,
@@ -48,18 +45,18 @@ fn at_every_place_of_the_order(rt: HostRuntime) -> Result<(), Fail> {
 // The reply to the first bytes of the fifty, whose records end after 5, 10, 20, 24, 34 and 50.
 fn reply_when_cut_at(len: usize) -> Reply {
     match len {
-        0 => refused(9, 0),
-        1..=4 => refused(1, 0),
-        5 => refused(9, 1),
-        6..=9 => refused(1, 1),
-        10 => refused(9, 2),
-        11..=19 => refused(1, 2),
-        20 => refused(9, 3),
-        21..=23 => refused(1, 3),
-        24 => refused(9, 4),
-        25..=33 => refused(1, 4),
-        34 => refused(9, 5),
-        35..=49 => refused(1, 5),
+        0 => Err(refused!(9, 0)),
+        1..=4 => Err(refused!(1, 0)),
+        5 => Err(refused!(9, 1)),
+        6..=9 => Err(refused!(1, 1)),
+        10 => Err(refused!(9, 2)),
+        11..=19 => Err(refused!(1, 2)),
+        20 => Err(refused!(9, 3)),
+        21..=23 => Err(refused!(1, 3)),
+        24 => Err(refused!(9, 4)),
+        25..=33 => Err(refused!(1, 4)),
+        34 => Err(refused!(9, 5)),
+        35..=49 => Err(refused!(1, 5)),
         _ => Ok(()),
     }
 }
@@ -77,12 +74,11 @@ fn at_every_byte(rt: HostRuntime) -> Result<(), Fail> {
 // A length of two bytes: 256 is cut where 255 bytes follow, and whole where 256 do. No text is that long.
 #[test]
 fn at_a_long_body(rt: HostRuntime) -> Result<(), Fail> {
-    let heap = rt.alloc();
-    let t = Tester { rt: &rt, heap };
-    let mut file = SheetFile::new(heap);
+    let t = Tester::new(&rt);
+    let mut file = SheetFile::new(t.heap);
     file.raw(&[0, 1, 1, 0])?;
     file.raw(&[97; 255])?;
-    t.expect(&file, refused(1, 0))?;
+    t.expect(&file, Err(refused!(1, 0)))?;
     file.raw(&[97])?;
-    t.expect(&file, refused(4, 0))
+    t.expect(&file, Err(refused!(4, 0)))
 }

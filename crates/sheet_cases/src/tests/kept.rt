@@ -30,34 +30,38 @@ fn rich(heap: Global) -> Result<SheetFile, AllocError> {
 
 // after seven records of texts, one for each number
 const BAD: [Case<'static>; 9] = [
-    Case(&[Node(NAME, 1, 0), Bytes(&[1])], 1, 8),
-    Case(&[Node(NAME, 1, 0), Label(b"c")], 2, 8),
+    Case(&[Node(NAME, 1, 0), Bytes(&[1])], refused!(1, 8)),
+    Case(&[Node(NAME, 1, 0), Label(b"c")], refused!(2, 8)),
     Case(
         &[
             Strand, Strand, Strand, Strand, Strand, Strand, Strand, Strand, Strand,
         ],
-        3,
-        15,
+        refused!(3, 15),
     ),
-    Case(&[Variable(b"v"), Variable(b"")], 4, 8),
-    Case(&[Node(NAME, 1, 0), Node(0, 0, 0)], 5, 8),
-    Case(&[Node(NAME, 1, 0), Strand, Step(0, 0, 0)], 6, 9),
-    Case(&[Node(VARIABLE, 0, 0), Strand, Step(OUTPUT, 0, 0)], 7, 9),
+    Case(&[Variable(b"v"), Variable(b"")], refused!(4, 8)),
+    Case(&[Node(NAME, 1, 0), Node(0, 0, 0)], refused!(5, 8)),
+    Case(&[Node(NAME, 1, 0), Strand, Step(0, 0, 0)], refused!(6, 9)),
+    Case(
+        &[Node(VARIABLE, 0, 0), Strand, Step(OUTPUT, 0, 0)],
+        refused!(7, 9),
+    ),
     Case(
         &[Node(NAME, 1, 0), Strand, Property([3, 0, 0, 3, 0, 0])],
-        8,
-        9,
+        refused!(8, 9),
     ),
-    Case(&[Node(NAME, 1, 0), Strand, Step(OUTPUT, 1, 0)], 9, 10),
+    Case(
+        &[Node(NAME, 1, 0), Strand, Step(OUTPUT, 1, 0)],
+        refused!(9, 10),
+    ),
 ];
 
 // Each bad file is refused, and the sheet still says what these bytes say.
 fn expect_kept<R: Abort>(t: &Tester<'_, R>, sheet: &mut Sheet, bytes: &[u8]) -> Result<(), Fail> {
     let texts = Place::Texts.file(t.heap)?;
-    for bad in &BAD {
+    for Case(next, refused) in &BAD {
         let mut file = texts.clone()?;
-        file.entries(bad.0)?;
-        t.expect_into(sheet, file.as_bytes(), refused(bad.1, bad.2))?;
+        file.entries(*next)?;
+        t.expect_into(sheet, file.as_bytes(), Err(*refused))?;
         t.expect_sheet(sheet, bytes)?;
     }
     Ok(())
@@ -65,10 +69,9 @@ fn expect_kept<R: Abort>(t: &Tester<'_, R>, sheet: &mut Sheet, bytes: &[u8]) -> 
 
 #[test]
 fn a_sheet_that_was_read(rt: HostRuntime) -> Result<(), Fail> {
-    let heap = rt.alloc();
-    let t = Tester { rt: &rt, heap };
-    let file = rich(heap)?;
-    let mut sheet = Sheet::new(heap)?;
+    let t = Tester::new(&rt);
+    let file = rich(t.heap)?;
+    let mut sheet = Sheet::new(t.heap)?;
     t.expect_into(&mut sheet, file.as_bytes(), Ok(()))?;
     t.expect_sheet(&sheet, file.as_bytes())?;
     expect_kept(&t, &mut sheet, file.as_bytes())
@@ -76,18 +79,16 @@ fn a_sheet_that_was_read(rt: HostRuntime) -> Result<(), Fail> {
 
 #[test]
 fn a_new_sheet(rt: HostRuntime) -> Result<(), Fail> {
-    let heap = rt.alloc();
-    let t = Tester { rt: &rt, heap };
-    let mut sheet = Sheet::new(heap)?;
+    let t = Tester::new(&rt);
+    let mut sheet = Sheet::new(t.heap)?;
     expect_kept(&t, &mut sheet, FIRST)
 }
 
 #[test]
 fn another_file_takes_its_place(rt: HostRuntime) -> Result<(), Fail> {
-    let heap = rt.alloc();
-    let t = Tester { rt: &rt, heap };
-    let file = rich(heap)?;
-    let mut sheet = Sheet::new(heap)?;
+    let t = Tester::new(&rt);
+    let file = rich(t.heap)?;
+    let mut sheet = Sheet::new(t.heap)?;
     t.expect_into(&mut sheet, file.as_bytes(), Ok(()))?;
     t.expect_into(&mut sheet, FIRST, Ok(()))?;
     t.expect_sheet(&sheet, FIRST)

@@ -31,10 +31,10 @@ const LABELS: Table<'static> = Table {
         Property([NONE, 0, 0, OUTPUT, 31, 0]),
     ],
     past: &[
-        Case(&[Label(b"l")], 3, 32),
-        Case(&[Label(b"")], 3, 32),
-        Case(&[Name(b"n"), Label(b"l")], 2, 33),
-        Case(&[Bytes(&[1, 0, 1, 0])], 1, 32),
+        Case(&[Label(b"l")], refused!(3, 32)),
+        Case(&[Label(b"")], refused!(3, 32)),
+        Case(&[Name(b"n"), Label(b"l")], refused!(2, 33)),
+        Case(&[Bytes(&[1, 0, 1, 0])], refused!(1, 32)),
     ],
 };
 
@@ -48,10 +48,10 @@ const NAMES: Table<'static> = Table {
         Property([NONE, 0, 0, OUTPUT, 0, 0]),
     ],
     past: &[
-        Case(&[Name(b"n")], 3, 65),
-        Case(&[Name(b"seventeen-letters")], 3, 65),
-        Case(&[Variable(b"x"), Name(b"n")], 2, 66),
-        Case(&[Bytes(&[1, 0, 2, 0])], 1, 65),
+        Case(&[Name(b"n")], refused!(3, 65)),
+        Case(&[Name(b"seventeen-letters")], refused!(3, 65)),
+        Case(&[Variable(b"x"), Name(b"n")], refused!(2, 66)),
+        Case(&[Bytes(&[1, 0, 2, 0])], refused!(1, 65)),
     ],
 };
 
@@ -65,10 +65,10 @@ const VARIABLES: Table<'static> = Table {
         Property([NONE, 0, 0, OUTPUT, 0, 0]),
     ],
     past: &[
-        Case(&[Variable(b"v")], 3, 66),
-        Case(&[Variable(b" ")], 3, 66),
-        Case(&[Node(NAME, 0, 0), Variable(b"v")], 2, 67),
-        Case(&[Bytes(&[1, 0, 3, 0])], 1, 66),
+        Case(&[Variable(b"v")], refused!(3, 66)),
+        Case(&[Variable(b" ")], refused!(3, 66)),
+        Case(&[Node(NAME, 0, 0), Variable(b"v")], refused!(2, 67)),
+        Case(&[Bytes(&[1, 0, 3, 0])], refused!(1, 66)),
     ],
 };
 
@@ -78,13 +78,13 @@ const NODES: Table<'static> = Table {
     most: 256,
     after: &[Strand, Property([NONE, 0, 0, OUTPUT, 0, 255])],
     past: &[
-        Case(&[Node(NAME, 0, 0)], 3, 258),
-        Case(&[Node(PAIR, 255, 255)], 3, 258),
-        Case(&[Node(0, 0, 0)], 3, 258),
-        Case(&[Record(4, &[1, 0, 0, 0, 0])], 2, 258),
-        Case(&[Strand, Node(NAME, 0, 0)], 2, 259),
-        Case(&[Strand, Step(OUTPUT, 0, 256)], 6, 259),
-        Case(&[Bytes(&[6, 0, 4, 0])], 1, 258),
+        Case(&[Node(NAME, 0, 0)], refused!(3, 258)),
+        Case(&[Node(PAIR, 255, 255)], refused!(3, 258)),
+        Case(&[Node(0, 0, 0)], refused!(3, 258)),
+        Case(&[Record(4, &[1, 0, 0, 0, 0])], refused!(2, 258)),
+        Case(&[Strand, Node(NAME, 0, 0)], refused!(2, 259)),
+        Case(&[Strand, Step(OUTPUT, 0, 256)], refused!(6, 259)),
+        Case(&[Bytes(&[6, 0, 4, 0])], refused!(1, 258)),
     ],
 };
 
@@ -94,11 +94,14 @@ const STRANDS: Table<'static> = Table {
     most: 8,
     after: &[Property([NONE, 0, 0, OUTPUT, 0, 0])],
     past: &[
-        Case(&[Strand], 3, 11),
-        Case(&[Step(OUTPUT, 0, 0), Strand], 3, 12),
-        Case(&[Record(5, &[0])], 2, 11),
-        Case(&[Property([NONE, 0, 0, OUTPUT, 0, 0]), Strand], 2, 12),
-        Case(&[Bytes(&[0, 0, 5])], 1, 11),
+        Case(&[Strand], refused!(3, 11)),
+        Case(&[Step(OUTPUT, 0, 0), Strand], refused!(3, 12)),
+        Case(&[Record(5, &[0])], refused!(2, 11)),
+        Case(
+            &[Property([NONE, 0, 0, OUTPUT, 0, 0]), Strand],
+            refused!(2, 12),
+        ),
+        Case(&[Bytes(&[0, 0, 5])], refused!(1, 11)),
     ],
 };
 
@@ -120,17 +123,16 @@ const STEPS: Table<'static> = Table {
         Property([NONE, 0, 0, OUTPUT, 0, 1]),
     ],
     past: &[
-        Case(&[Step(OUTPUT, 0, 0)], 3, 22),
-        Case(&[Step(0, 0, 0)], 3, 22),
-        Case(&[Step(OUTPUT, 1, 1)], 3, 22),
-        Case(&[Step(OUTPUT, 0, 1)], 3, 22),
-        Case(&[Record(6, &[2, 0, 0, 0, 0])], 2, 22),
+        Case(&[Step(OUTPUT, 0, 0)], refused!(3, 22)),
+        Case(&[Step(0, 0, 0)], refused!(3, 22)),
+        Case(&[Step(OUTPUT, 1, 1)], refused!(3, 22)),
+        Case(&[Step(OUTPUT, 0, 1)], refused!(3, 22)),
+        Case(&[Record(6, &[2, 0, 0, 0, 0])], refused!(2, 22)),
         Case(
             &[Property([NONE, 0, 0, OUTPUT, 0, 0]), Step(OUTPUT, 0, 0)],
-            2,
-            23,
+            refused!(2, 23),
         ),
-        Case(&[Bytes(&[6, 0, 6, 0])], 1, 22),
+        Case(&[Bytes(&[6, 0, 6, 0])], refused!(1, 22)),
     ],
 };
 
@@ -152,10 +154,7 @@ fn expect_table<R: Abort>(t: &Tester<'_, R>, table: &Table, i: usize) -> Result<
 
 #[test]
 fn each_table(rt: HostRuntime) -> Result<(), Fail> {
-    let t = Tester {
-        rt: &rt,
-        heap: rt.alloc(),
-    };
+    let t = Tester::new(&rt);
     for (i, table) in TABLES.iter().enumerate() {
         expect_table(&t, table, i)?;
     }
@@ -181,17 +180,16 @@ const FULLEST_GOOD: [&'static [Entry<'static>]; 1] = [&[Property([
 ])]];
 
 const FULLEST_BAD: [Case<'static>; 4] = [
-    Case(&[Strand], 3, 552),
-    Case(&[Step(OUTPUT, 0, 0)], 3, 552),
-    Case(&[Node(NAME, 0, 0)], 2, 552),
-    Case(&[], 9, 552),
+    Case(&[Strand], refused!(3, 552)),
+    Case(&[Step(OUTPUT, 0, 0)], refused!(3, 552)),
+    Case(&[Node(NAME, 0, 0)], refused!(2, 552)),
+    Case(&[], refused!(9, 552)),
 ];
 
 #[test]
 fn all_at_once(rt: HostRuntime) -> Result<(), Fail> {
-    let heap = rt.alloc();
-    let t = Tester { rt: &rt, heap };
-    let file = fullest(heap)?;
+    let t = Tester::new(&rt);
+    let file = fullest(t.heap)?;
     t.expect_taken(&file, &FULLEST_GOOD, &[])?;
     t.expect_cases(&file, &FULLEST_BAD, 0)
 }

@@ -45,10 +45,7 @@ const BAD: [Entry<'static>; 25] = [
 
 #[test]
 fn bad_nodes(rt: HostRuntime) -> Result<(), Fail> {
-    let t = Tester {
-        rt: &rt,
-        heap: rt.alloc(),
-    };
+    let t = Tester::new(&rt);
     t.expect_each(&[Place::Nodes], &BAD, 5)
 }
 
@@ -57,26 +54,22 @@ const SELF: [Entry<'static>; 2] = [Node(PAIR, 0, 0), Node(SEAL, 0, 0)];
 
 #[test]
 fn no_node_of_itself(rt: HostRuntime) -> Result<(), Fail> {
-    let t = Tester {
-        rt: &rt,
-        heap: rt.alloc(),
-    };
+    let t = Tester::new(&rt);
     t.expect_each(&[Place::Texts], &SELF, 5)
 }
 
 // where nothing is declared
 const UNDECLARED: [Case<'static>; 4] = [
-    Case(&[Node(NAME, 0, 0)], 5, 0),
-    Case(&[Node(VARIABLE, 0, 0)], 5, 0),
-    Case(&[Variable(b"x"), Node(NAME, 0, 0)], 5, 1),
-    Case(&[Name(b"n"), Node(VARIABLE, 0, 0)], 5, 1),
+    Case(&[Node(NAME, 0, 0)], refused!(5, 0)),
+    Case(&[Node(VARIABLE, 0, 0)], refused!(5, 0)),
+    Case(&[Variable(b"x"), Node(NAME, 0, 0)], refused!(5, 1)),
+    Case(&[Name(b"n"), Node(VARIABLE, 0, 0)], refused!(5, 1)),
 ];
 
 #[test]
 fn undeclared(rt: HostRuntime) -> Result<(), Fail> {
-    let heap = rt.alloc();
-    let t = Tester { rt: &rt, heap };
-    t.expect_cases(&SheetFile::new(heap), &UNDECLARED, 0)
+    let t = Tester::new(&rt);
+    t.expect_cases(&SheetFile::new(t.heap), &UNDECLARED, 0)
 }
 
 // the last name and variable, the latest node, and keys that are names and variables
@@ -91,10 +84,9 @@ const GOOD: [&'static [Entry<'static>]; 6] = [
 
 #[test]
 fn good_nodes(rt: HostRuntime) -> Result<(), Fail> {
-    let heap = rt.alloc();
-    let t = Tester { rt: &rt, heap };
+    let t = Tester::new(&rt);
     t.expect_taken(
-        &Place::Nodes.file(heap)?,
+        &Place::Nodes.file(t.heap)?,
         &GOOD,
         &[Strand, Property(NEVER_N)],
     )
@@ -128,15 +120,14 @@ const HIGH_GOOD: [&'static [Entry<'static>]; 2] = [
 
 #[test]
 fn a_tower_of_names(rt: HostRuntime) -> Result<(), Fail> {
-    let heap = rt.alloc();
-    let t = Tester { rt: &rt, heap };
-    t.expect_taken(&tower(heap, NAME)?, &HIGH_GOOD, &[Property(HIGH)])
+    let t = Tester::new(&rt);
+    t.expect_taken(&tower(t.heap, NAME)?, &HIGH_GOOD, &[Property(HIGH)])
 }
 
 const HIGH_BAD: [Case<'static>; 3] = [
     // x is not bound
-    Case(&[Strand, Step(OUTPUT, 0, 255)], 7, 260),
-    Case(&[Strand, Step(SAME, 254, 255)], 7, 260),
+    Case(&[Strand, Step(OUTPUT, 0, 255)], refused!(7, 260)),
+    Case(&[Strand, Step(SAME, 254, 255)], refused!(7, 260)),
     // x is bound, and stands in the property
     Case(
         &[
@@ -145,16 +136,14 @@ const HIGH_BAD: [Case<'static>; 3] = [
             Step(OUTPUT, 0, 255),
             Property(HIGH),
         ],
-        8,
-        262,
+        refused!(8, 262),
     ),
 ];
 
 #[test]
 fn a_tower_of_variables(rt: HostRuntime) -> Result<(), Fail> {
-    let heap = rt.alloc();
-    let t = Tester { rt: &rt, heap };
-    let file = tower(heap, VARIABLE)?;
+    let t = Tester::new(&rt);
+    let file = tower(t.heap, VARIABLE)?;
     t.expect_taken(&file, &[&[Strand]], &[Property(HIGH)])?;
     t.expect_cases(&file, &HIGH_BAD, 0)
 }

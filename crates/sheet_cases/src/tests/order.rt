@@ -17,10 +17,7 @@ const UNKNOWN: [Entry<'static>; 4] = [
 
 #[test]
 fn unknown_kinds(rt: HostRuntime) -> Result<(), Fail> {
-    let t = Tester {
-        rt: &rt,
-        heap: rt.alloc(),
-    };
+    let t = Tester::new(&rt);
     t.expect_each(
         &[Place::Start, Place::Texts, Place::Strand, Place::End],
         &UNKNOWN,
@@ -39,35 +36,34 @@ const SOON: [Entry<'static>; 4] = [
 
 #[test]
 fn before_a_strand(rt: HostRuntime) -> Result<(), Fail> {
-    let t = Tester {
-        rt: &rt,
-        heap: rt.alloc(),
-    };
+    let t = Tester::new(&rt);
     t.expect_each(&[Place::Start, Place::Texts, Place::Nodes], &SOON, 2)
 }
 
 // each kind of text after each later kind, where nothing else is before it
 const TEXTS_LATE: [Case<'static>; 12] = [
-    Case(&[Name(b"n"), Label(b"a")], 2, 1),
-    Case(&[Variable(b"x"), Label(b"a")], 2, 1),
-    Case(&[Variable(b"x"), Name(b"n")], 2, 1),
-    Case(&[Name(b"n"), Node(NAME, 0, 0), Label(b"a")], 2, 2),
-    Case(&[Name(b"n"), Node(NAME, 0, 0), Name(b"k")], 2, 2),
-    Case(&[Name(b"n"), Node(NAME, 0, 0), Variable(b"x")], 2, 2),
-    Case(&[Strand, Label(b"a")], 2, 1),
-    Case(&[Strand, Name(b"n")], 2, 1),
-    Case(&[Strand, Variable(b"x")], 2, 1),
+    Case(&[Name(b"n"), Label(b"a")], refused!(2, 1)),
+    Case(&[Variable(b"x"), Label(b"a")], refused!(2, 1)),
+    Case(&[Variable(b"x"), Name(b"n")], refused!(2, 1)),
+    Case(&[Name(b"n"), Node(NAME, 0, 0), Label(b"a")], refused!(2, 2)),
+    Case(&[Name(b"n"), Node(NAME, 0, 0), Name(b"k")], refused!(2, 2)),
+    Case(
+        &[Name(b"n"), Node(NAME, 0, 0), Variable(b"x")],
+        refused!(2, 2),
+    ),
+    Case(&[Strand, Label(b"a")], refused!(2, 1)),
+    Case(&[Strand, Name(b"n")], refused!(2, 1)),
+    Case(&[Strand, Variable(b"x")], refused!(2, 1)),
     // the same, where the text would be refused 4
-    Case(&[Name(b"n"), Label(b"")], 2, 1),
-    Case(&[Variable(b"x"), Label(b" ")], 2, 1),
-    Case(&[Variable(b"x"), Name(b"\x7f")], 2, 1),
+    Case(&[Name(b"n"), Label(b"")], refused!(2, 1)),
+    Case(&[Variable(b"x"), Label(b" ")], refused!(2, 1)),
+    Case(&[Variable(b"x"), Name(b"\x7f")], refused!(2, 1)),
 ];
 
 #[test]
 fn texts_in_order(rt: HostRuntime) -> Result<(), Fail> {
-    let heap = rt.alloc();
-    let t = Tester { rt: &rt, heap };
-    t.expect_cases(&SheetFile::new(heap), &TEXTS_LATE, 0)
+    let t = Tester::new(&rt);
+    t.expect_cases(&SheetFile::new(t.heap), &TEXTS_LATE, 0)
 }
 
 const TEXTS: [Entry<'static>; 6] = [
@@ -82,10 +78,7 @@ const TEXTS: [Entry<'static>; 6] = [
 
 #[test]
 fn texts_before_nodes(rt: HostRuntime) -> Result<(), Fail> {
-    let t = Tester {
-        rt: &rt,
-        heap: rt.alloc(),
-    };
+    let t = Tester::new(&rt);
     t.expect_each(
         &[Place::Nodes, Place::Strand, Place::Input, Place::End],
         &TEXTS,
@@ -98,10 +91,7 @@ const NODES: [Entry<'static>; 2] = [Node(NAME, 0, 0), Node(0, 0, 0)];
 
 #[test]
 fn nodes_before_strands(rt: HostRuntime) -> Result<(), Fail> {
-    let t = Tester {
-        rt: &rt,
-        heap: rt.alloc(),
-    };
+    let t = Tester::new(&rt);
     t.expect_each(&[Place::Strand, Place::Input, Place::End], &NODES, 2)
 }
 
@@ -121,10 +111,7 @@ const LATE: [Entry<'static>; 7] = [
 
 #[test]
 fn after_the_property(rt: HostRuntime) -> Result<(), Fail> {
-    let t = Tester {
-        rt: &rt,
-        heap: rt.alloc(),
-    };
+    let t = Tester::new(&rt);
     t.expect_each(&[Place::End], &LATE, 2)
 }
 
@@ -142,10 +129,7 @@ const LONG_OR_SHORT: [Entry<'static>; 7] = [
 
 #[test]
 fn fixed_lengths(rt: HostRuntime) -> Result<(), Fail> {
-    let t = Tester {
-        rt: &rt,
-        heap: rt.alloc(),
-    };
+    let t = Tester::new(&rt);
     t.expect_each(&[Place::Texts, Place::Nodes], &LONG_OR_SHORT, 2)
 }
 
@@ -167,9 +151,6 @@ const LONG_OR_SHORT_LATER: [Entry<'static>; 10] = [
 
 #[test]
 fn later_fixed_lengths(rt: HostRuntime) -> Result<(), Fail> {
-    let t = Tester {
-        rt: &rt,
-        heap: rt.alloc(),
-    };
+    let t = Tester::new(&rt);
     t.expect_each(&[Place::Strand, Place::Input], &LONG_OR_SHORT_LATER, 2)
 }

@@ -43,10 +43,7 @@ const BAD: [Entry<'static>; 24] = [
 
 #[test]
 fn bad_properties(rt: HostRuntime) -> Result<(), Fail> {
-    let t = Tester {
-        rt: &rt,
-        heap: rt.alloc(),
-    };
+    let t = Tester::new(&rt);
     t.expect_each(&[Place::Input], &BAD, 8)
 }
 
@@ -54,17 +51,22 @@ const NEVER_Y: [u16; 6] = [NONE, 0, 0, OUTPUT, 0, Y];
 
 // whichever step of whichever strand binds y
 const BOUND: [Case<'static>; 4] = [
-    Case(&[Step(INPUT, 0, 1), Property(NEVER_Y)], 8, 29),
-    Case(&[Step(SPLIT, N, XY), Property(NEVER_Y)], 8, 29),
-    Case(&[Step(INPUT, 0, 1), Strand, Property(NEVER_Y)], 8, 30),
-    Case(&[Strand, Step(SPLIT, N, YZ), Property(NEVER_Y)], 8, 30),
+    Case(&[Step(INPUT, 0, 1), Property(NEVER_Y)], refused!(8, 29)),
+    Case(&[Step(SPLIT, N, XY), Property(NEVER_Y)], refused!(8, 29)),
+    Case(
+        &[Step(INPUT, 0, 1), Strand, Property(NEVER_Y)],
+        refused!(8, 30),
+    ),
+    Case(
+        &[Strand, Step(SPLIT, N, YZ), Property(NEVER_Y)],
+        refused!(8, 30),
+    ),
 ];
 
 #[test]
 fn bound_by_a_step(rt: HostRuntime) -> Result<(), Fail> {
-    let heap = rt.alloc();
-    let t = Tester { rt: &rt, heap };
-    t.expect_cases(&Place::Strand.file(heap)?, &BOUND, 0)
+    let t = Tester::new(&rt);
+    t.expect_cases(&Place::Strand.file(t.heap)?, &BOUND, 0)
 }
 
 // free variables in the later action, and some or all of them in the earlier one
@@ -82,7 +84,6 @@ const GOOD: [&'static [Entry<'static>]; 9] = [
 
 #[test]
 fn good_properties(rt: HostRuntime) -> Result<(), Fail> {
-    let heap = rt.alloc();
-    let t = Tester { rt: &rt, heap };
-    t.expect_taken(&Place::Input.file(heap)?, &GOOD, &[])
+    let t = Tester::new(&rt);
+    t.expect_taken(&Place::Input.file(t.heap)?, &GOOD, &[])
 }

@@ -51,10 +51,7 @@ const BAD: [Entry<'static>; 30] = [
 
 #[test]
 fn bad_steps(rt: HostRuntime) -> Result<(), Fail> {
-    let t = Tester {
-        rt: &rt,
-        heap: rt.alloc(),
-    };
+    let t = Tester::new(&rt);
     t.expect_each(&[Place::Strand], &BAD, 6)
 }
 
@@ -75,9 +72,6 @@ const BAD_TWICE: [Entry<'static>; 11] = [
 
 #[test]
 fn before_variables(rt: HostRuntime) -> Result<(), Fail> {
-    let t = Tester {
-        rt: &rt,
-        heap: rt.alloc(),
-    };
+    let t = Tester::new(&rt);
     t.expect_each(&[Place::Input], &BAD_TWICE, 6)
 }

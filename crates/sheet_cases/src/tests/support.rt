@@ -9,18 +9,35 @@ use std::alloc::Global;
 use std::process::Abort;
 use std::test::Fail;
 
-pub fn refused(number: u16, record: usize) -> Reply {
-    Err(Refused { number, record })
+// A refusal by its number and its record. A macro, since tables of cases are constants, and a constant calls no function.
+macro_rules! refused {
+    ($number:expr, $record:expr) => {
+        $crate::Refused {
+            number: $number,
+            record: $record,
+        }
+    };
 }
 
-// What follows a base, and the number (which is what is tested) and the record of the refusal.
-pub struct Case<'a>(pub &'a [Entry<'a>], pub u16, pub usize);
+pub(crate) use refused;
+
+// What follows a base, and how the file is refused.
+pub struct Case<'a>(pub &'a [Entry<'a>], pub Refused);
 
 // What every case needs: the handle that ends it where it fails, and memory.
 #[derive(Drop)]
 pub struct Tester<'a, R> {
     pub rt: &'a R,
     pub heap: Global,
+}
+
+impl<'a, R: AllocGlobal> Tester<'a, R> {
+    pub fn new(rt: &'a R) -> Tester<'a, R> {
+        Tester {
+            rt,
+            heap: rt.alloc(),
+        }
+    }
 }
 
 impl<R: Abort> Tester<'_, R> {
@@ -49,11 +66,11 @@ impl<R: Abort> Tester<'_, R> {
 
     // The replies to these cases, in a row of tables that has the number.
     pub fn expect_cases(&self, base: &SheetFile, cases: &[Case], row: usize) -> Result<(), Fail> {
-        for (i, case) in cases.iter().enumerate() {
+        for (i, Case(next, refused)) in cases.iter().enumerate() {
             let mut file = base.clone()?;
-            file.entries(case.0)?;
+            file.entries(*next)?;
             let reply = reply_to(self.heap, file.as_bytes())?;
-            assert_eq!(self.rt; reply, refused(case.1, case.2), "row {row}, case {i}");
+            assert_eq!(self.rt; reply, Err(*refused), "row {row}, case {i}");
         }
         Ok(())
     }
@@ -66,7 +83,7 @@ impl<R: Abort> Tester<'_, R> {
                 let mut file = base.clone()?;
                 file.entry(*e)?;
                 let reply = reply_to(self.heap, file.as_bytes())?;
-                assert_eq!(self.rt; reply, refused(number, place.record()), "entry {i}");
+                assert_eq!(self.rt; reply, Err(refused!(number, place.record())), "entry {i}");
             }
         }
         Ok(())

@@ -31,17 +31,14 @@ fn expect_bad<R: Abort>(t: &Tester<'_, R>, text: &[u8], i: usize) -> Result<(), 
         let mut file = SheetFile::new(t.heap);
         file.record(kind, text)?;
         let reply = reply_to(t.heap, file.as_bytes())?;
-        assert_eq!(t.rt; reply, refused(4, 0), "text {i}, kind {kind}");
+        assert_eq!(t.rt; reply, Err(refused!(4, 0)), "text {i}, kind {kind}");
     }
     Ok(())
 }
 
 #[test]
 fn bad_texts(rt: HostRuntime) -> Result<(), Fail> {
-    let t = Tester {
-        rt: &rt,
-        heap: rt.alloc(),
-    };
+    let t = Tester::new(&rt);
     for (i, text) in BAD.iter().enumerate() {
         expect_bad(&t, *text, i)?;
     }
@@ -70,10 +67,7 @@ fn expect_good<R: Abort>(t: &Tester<'_, R>, text: &[u8], i: usize) -> Result<(),
 
 #[test]
 fn good_texts(rt: HostRuntime) -> Result<(), Fail> {
-    let t = Tester {
-        rt: &rt,
-        heap: rt.alloc(),
-    };
+    let t = Tester::new(&rt);
     for (i, text) in GOOD.iter().enumerate() {
         expect_good(&t, *text, i)?;
     }
