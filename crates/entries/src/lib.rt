@@ -4,9 +4,11 @@
 mod decode;
 mod entry;
 mod fault;
+mod lookup;
 mod refusal;
 mod text;
 
 pub use entry::{Entry, Fields, PropertyFields, Unknown};
 pub use fault::{Rule, SheetFault};
-pub use text::{Text, text_at};
+pub use lookup::text_at;
+pub use text::Text;

@@ -1,9 +1,8 @@
 // The text of a label, a name or a variable: 1 to 16 bytes from 33 to 126.
-ghost use Rattle.std.specs.Prelude.{◌≡◌, ◌≤◌, true, length, map, Decides, MatchOption, Some};
+ghost use Rattle.std.specs.Prelude.{◌≡◌, ◌≤◌, true, length, MatchOption, Some};
 ghost use Rattle.std.specs.Char.{is_ascii_graphic};
 ghost use Rattle.std.specs.List.{AllByRecursion, list_all};
 ghost use Rattle.protocol.specs.Lawful.{Text as IsText};
-ghost use Rattle.entries.specs.Texts.{text};
 
 use arrayvec::ArrayString;
 use std::{fmt, str};
@@ -16,9 +15,11 @@ pub struct Text {
 }
 
 impl Text {
+    ghost use Rattle.entries.specs.Texts.{bytes_of};
+
     // The text of these bytes, or none where they are no text.
     pub fn new(bytes: &[u8]) -> Option<Text>
-        ensures { MatchOption result (¬ IsText bytes.now) (λ t. IsText bytes.now × (t.text.bytes ≡ bytes.now)) }
+        ensures { MatchOption result (¬ IsText bytes.now) (λ t. IsText bytes.now × (bytes_of t ≡ bytes.now)) }
     {
         if bytes.is_empty() || !printable(bytes) {
             return None;
@@ -29,32 +30,27 @@ impl Text {
     }
 
     pub fn as_bytes(&self) -> &[u8]
-        ensures value { result.now ≡ self.now.text.bytes }
+        ensures value { result.now ≡ bytes_of self.now }
         ensures printable { AllByRecursion (λ b. (33 ≤ b) × (b ≤ 126)) result.now }
     {
         self.text.as_bytes()
     }
 
     pub fn as_str(&self) -> &str
-        ensures { result.now ≡ self.now.text.bytes }
+        ensures { result.now ≡ bytes_of self.now }
     {
         self.text.as_str()
     }
 }
 
 impl fmt::Display for Text {
-    ghost output = { λ t. Some t.text.bytes };
+    ghost use Rattle.entries.specs.Texts.{bytes_of};
+
+    ghost output = { λ t. Some (bytes_of t) };
 
     fn fmt<W: fmt::Write>(&self, f: &mut fmt::Formatter<W>) -> fmt::Result {
         f.pad(self.as_str())
     }
-}
-
-// The text with this number, and nothing where there is none.
-pub fn text_at(texts: &[Text], number: u16) -> &str
-    ensures { result.now ≡ text (map (λ t. t.text.bytes) texts.now) number }
-{
-    texts.get(number as usize).map_or("", |t| t.as_str())
 }
 
 fn printable(bytes: &[u8]) -> bool

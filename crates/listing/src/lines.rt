@@ -2,7 +2,8 @@
 // is handed to each call: a struct that holds it would have to lend it on to each closure.
 ghost use Rattle.std.specs.Prelude.{◌≡◌, ℕ, List, ◌++◌, map, string_bytes, OnOk};
 ghost use Rattle.sheet.specs.Sheets.{content_of};
-ghost use Rattle.sheet.specs.View.{bytes_of, steps_of};
+ghost use Rattle.protocol.specs.Strands.{steps_of};
+ghost use Rattle.entries.specs.Texts.{bytes_of};
 ghost use Rattle.listing.specs.Adds.{AddsEach};
 ghost use Rattle.listing.specs.Lines.{numbered, text_line, form_line, step_line, strand_lines, property_line};
 

@@ -1,5 +1,5 @@
 use Rattle.std.proofs.Common.{rules, refl}
-use Rattle.sheet.specs.View.{bytes_of}
+use Rattle.entries.specs.Texts.{bytes_of}
 use Rattle.listing.specs.Lines.{text_line}
 use Rattle.listing.proofs.Numbering.{on_map}
 use Rattle.listing.proofs.lines.push_texts.Goals as goal

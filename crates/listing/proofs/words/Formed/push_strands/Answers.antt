@@ -1,6 +1,6 @@
 use Rattle.std.proofs.Common.{rules, map, string_bytes}
 use Rattle.sheet.specs.Sheets.{content_of}
-use Rattle.sheet.specs.View.{steps_of}
+use Rattle.protocol.specs.Strands.{steps_of}
 use Rattle.listing.specs.Lines.{strand_lines}
 use Rattle.listing.proofs.Numbering.{on_map}
 use Rattle.listing.proofs.words.Formed.push_strands.Goals as goal
