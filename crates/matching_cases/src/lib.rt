@@ -1,4 +1,4 @@
-// Tests of matching on tables of nodes written out by hand, and on large shared ones.
+// Tests of matching on tables of nodes written out by hand, and on large shared ones, and of the tables themselves.
 #![tactic(auto)]
 
 #[cfg(test)]

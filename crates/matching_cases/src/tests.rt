@@ -2,4 +2,5 @@
 mod large;
 mod small;
 mod support;
+mod tables;
 mod trials;

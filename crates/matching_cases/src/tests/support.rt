@@ -3,7 +3,7 @@ use matching::{Binding, Matching};
 use std::alloc::Global;
 use std::process::Abort;
 use std::test::Fail;
-use terms::{LocalName, Node, NodeNo, NodeTable, Variable};
+use terms::{LocalName, Node, NodeFault, NodeNo, NodeTable, Variable};
 use unification::Ask;
 
 // Nodes by their numbers. Each crate of tests has its own: they share only `terms`, where no other caller needs these.
@@ -43,13 +43,17 @@ pub(crate) fn ask(left: u16, right: u16) -> Ask {
     }
 }
 
-// A matching of these nodes.
-pub(crate) fn opened(heap: Global, nodes: &[Node]) -> Result<Matching, Fail> {
+pub(crate) fn table_of(heap: Global, nodes: &[Node]) -> Result<NodeTable, NodeFault> {
     let mut table = NodeTable::new(heap);
     for n in nodes {
         table.push(*n)?;
     }
-    Ok(Matching::over(heap, table)?)
+    Ok(table)
+}
+
+// A matching of these nodes.
+pub(crate) fn opened(heap: Global, nodes: &[Node]) -> Result<Matching, Fail> {
+    Ok(Matching::over(heap, table_of(heap, nodes)?)?)
 }
 
 // a, b, the answer to their match, and how many bindings there are then
