@@ -1,9 +1,8 @@
 -- Reading record by record: one more, and every way to stop.
-use Rattle.std.proofs.Common.{◌≡◌, ℕ, ◌+◌, List, [], ◌∷◌, ◌++◌, map, length, Some, None, Ok, Err, Option, Result, MatchResult, sym, refl, ap, ◌∙◌, arith}
+use Rattle.std.proofs.Common.{◌≡◌, ℕ, ◌+◌, List, [], ◌∷◌, ◌++◌, map, length, Ok, Err, Result, MatchResult, sym, refl, ap, ◌∙◌, arith}
 use Rattle.std.proofs.lemmas.List.{length_push, map_push}
 use Rattle.records.specs.Bytes.{Rec, encode, encode_all}
 use Rattle.records.proofs.Scanning.{encode_push}
-use Rattle.protocol.specs.declared.step.Property.{Property}
 use Rattle.protocol.specs.Lawful.{Content, Lawful, Sound}
 use Rattle.entries.specs.declared.fault.Rule.{Rule}
 use Rattle.entries.specs.declared.fault.Rule.TheVariants as r
@@ -11,13 +10,15 @@ use Rattle.entries.specs.Format.{Entry, rec, entries, file}
 use Rattle.entries.specs.Rules.{InOrder, KeepsBelow, Breaks}
 use Rattle.entries.specs.Growth.{Adds}
 use Rattle.entries.specs.declared.fault.SheetFault.{SheetFault}
+use Rattle.entries.specs.declared.fault.SheetFault.TheVariants as f
 use Rattle.sheet.specs.declared.refusal.Refusal.{Refusal}
 use Rattle.sheet.specs.declared.refusal.Refusal.TheVariants.{Broken, NoMemory}
 use Rattle.sheet.specs.Refusing.{at}
 use Rattle.sheet.specs.Drafting.{Added}
-use Rattle.entries.specs.Reading.{Stops, taken, refused, Reads, LawfulExactly}
+use Rattle.entries.specs.Reading.{Stops, taken, refused, Reads, LawfulExactly, first_file}
 use Rattle.sheet.specs.Loading.{Drafted}
 use Rattle.entries.proofs.Growing.{grow_sound, grow_entries}
+use Rattle.entries.proofs.First.{first_taken}
 use Rattle.entries.proofs.OneReply.{one_reply}
 
 -- what is known between two records: cs is left, and n records have been read
@@ -60,12 +61,13 @@ module _ (bs : List ℕ) (C : Content) (cs : List ℕ) (n : ℕ) (s : Sofar bs C
   draft_refused x ds place (Err (Broken q)) f D P Q g e w m a b = rw (b (Broken q) m) (sofar_broken q place x ds g w e)
   draft_refused x ds place (Err NoMemory) f D P Q g e w m a b = rw (b NoMemory m) tt
 
-  there : (o : Option Property) → (o ≡ None → ⊥) → (p : Property) × (o ≡ Some p)
-  there None w = absurd (w refl)
-  there (Some p) w = (p, refl)
-
 pub lawful_exactly : LawfulExactly
 lawful_exactly C = (λ l. ((l, refl), λ p w. one_reply (file C) p (taken C) w (l, refl)), λ bs w. w.0)
+
+-- the first file is refused for want of memory alone
+pub first_drafted : (g : SheetFault) → Drafted first_file (Err g) → g ≡ f.NoMemory
+first_drafted (f.Refused q k) d = absurd (first_taken q k d)
+first_drafted f.NoMemory d = refl
 
 -- what is read is lawful
 pub lawful_taken : (bs : List ℕ) (C : Content) → Reads bs (taken C) → ∥ Lawful C ∥₁

@@ -1,8 +1,7 @@
 -- What adding an entry to the tables of a sheet answers.
-use Rattle.std.specs.Prelude.{◌≡◌, ℕ, List, [], ◌∷◌, ◌++◌, length, Ok, Err, Result}
+use Rattle.std.specs.Prelude.{◌≡◌, ℕ, List, [], ◌∷◌, ◌++◌, Ok, Err, Result}
 use Rattle.records.specs.Bytes.{Rec}
-use Rattle.terms.specs.declared.variables.VarSet.{VarSet}
-use Rattle.protocol.specs.Strands.{Binds, BoundBefore, Bound, step_of}
+use Rattle.protocol.specs.Strands.{Binds, step_of}
 use Rattle.protocol.specs.Lawful.{Content, Text}
 use Rattle.entries.specs.declared.fault.Rule.{Rule}
 use Rattle.entries.specs.declared.fault.Rule.TheVariants as r
@@ -12,15 +11,9 @@ use Rattle.sheet.specs.declared.refusal.Refusal.{Refusal}
 use Rattle.sheet.specs.declared.refusal.Refusal.TheVariants.{Broken, NoMemory}
 use Rattle.entries.specs.Format.{Entry, step, rec, step_entry}
 use Rattle.entries.specs.Faults.{number}
-use Rattle.entries.specs.Rules.{latest, latest_steps, Keeps, KeepsBelow, Breaks}
+use Rattle.entries.specs.Rules.{Keeps, KeepsBelow, Breaks}
 use Rattle.entries.specs.Growth.{Adds}
 use Rattle.sheet.specs.Checking.{Just}
-
--- the sets are those of the variables bound so far, and of those that the latest strand has bound
-abbrev pub Tracks : Content → VarSet → VarSet → Type 0
-Tracks C bound here =
-    Just (Bound C.nodes C.strands) bound
-    × Just (BoundBefore C.nodes C.strands (latest C) (length (latest_steps C))) here
 
 -- the entry breaks the rule, and none with a smaller number
 abbrev pub Refuses : Content → Entry → Rule → Type 0

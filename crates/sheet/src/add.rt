@@ -81,16 +81,15 @@ impl Draft {
         })
     }
 
+    #[tactic(auto, using(crate::proofs::Tracking::one_step_more))]
     fn add_step(&mut self, f: Fields) -> Result<(), Refusal>
         requires order { InOrder (content self.old.tables) (format.step f.kind f.a f.b) }
         requires room { HasRoom (content self.old.tables) (format.step f.kind f.a f.b) }
         ensures { Entered (content self.old.tables) (format.step f.kind f.a f.b) result (content self.new.tables) }
     {
         let placed = self.place(f)?;
-        // by its number, since it is read before it is written
-        let k = self.tables.strands.len() - 1;
-        let longer = self.tables.strands[k].with(placed.step).unwrap();
-        self.tables.strands[k] = longer;
+        let latest = self.tables.strands.last_mut().unwrap();
+        *latest = latest.with(placed.step).unwrap();
         self.bound = self.bound.union(placed.binds);
         self.here = self.here.union(placed.binds);
         Ok(())
@@ -109,12 +108,12 @@ impl Draft {
         let Some(action) = p.earlier else {
             return true;
         };
-        match self.tables.action(action) {
-            Some(earlier) => earlier.is_subset(later),
-            None => false,
-        }
+        self.tables
+            .action(action)
+            .is_some_and(|earlier| earlier.is_subset(later))
     }
 
+    #[tactic(auto, using(crate::proofs::Stepping::property_refused))]
     fn add_property(&mut self, p: PropertyFields) -> Result<(), Refusal>
         requires order { InOrder (content self.old.tables) (property_of p) }
         ensures { Entered (content self.old.tables) (property_of p) result (content self.new.tables) }
@@ -144,6 +143,7 @@ impl Draft {
     }
 
     // Adds what a record says, or finds the first rule that it breaks.
+    #[tactic(auto, using(crate::proofs::Stepping::added))]
     pub(crate) fn add(&mut self, found: Record) -> Result<(), Refusal>
         ensures { Added (content self.old.tables) (rec_of found.entry) result (content self.new.tables) }
     {

@@ -1,18 +1,17 @@
 // The checks of a sheet's tables: what comes next, and whether a node, a step or a property is lawful.
-ghost use Rattle.std.specs.Prelude.{◌≡◌, ℕ, ◌<◌, ◌≤◌, [], length, Decides};
+ghost use Rattle.std.specs.Prelude.{◌≡◌, ◌<◌, [], length, Decides};
 ghost use Rattle.protocol.specs.declared.step.Step.TheVariants as step;
 ghost use Rattle.terms.specs.Nodes.{node};
-ghost use Rattle.protocol.specs.Strands.{Bound};
-ghost use Rattle.protocol.specs.Lawful.{IsAtom, Apart, SplitPattern, PropertyLaw};
+ghost use Rattle.protocol.specs.Lawful.{IsAtom, Apart, SplitPattern};
 ghost use Rattle.sheet.specs.View.{content};
 ghost use Rattle.entries.specs.Rules.{InOrder, HasRoom, latest_steps};
 ghost use Rattle.entries.specs.Decoding.{entry_of};
 ghost use Rattle.entries.specs.Growth.{nothing};
-ghost use Rattle.sheet.specs.Checking.{Declared, Just, Shaped, SealedVariable, Acted};
+ghost use Rattle.sheet.specs.Checking.{Declared, Shaped, SealedVariable, Acted};
 
 use crate::tables::{Shape, Tables};
 use entries::Entry;
-use protocol::{Action, Step};
+use protocol::{Action, Direction, Step};
 use std::alloc::Global;
 use terms::{Label, Node, NodeNo, NodeTable, VarSet, Variable};
 
@@ -87,10 +86,10 @@ impl Tables {
     fn latest_steps(&self) -> &[Step]
         ensures { result.now ≡ latest_steps (content self.now) }
     {
-        match self.strands.as_slice().last() {
-            Some(strand) => strand.steps(),
-            None => &[],
-        }
+        self.strands
+            .as_slice()
+            .last()
+            .map_or(&[], |strand| strand.steps())
     }
 
     // Whether the names and variables of a node are declared, and its key is a name or a variable.
@@ -140,16 +139,18 @@ impl Tables {
     fn output(&self, label: Label, node: NodeNo) -> Option<Shape>
         ensures { Shaped (content self.now) (step.Output label node) result }
     {
-        if !has(self.labels.as_slice(), label.0) {
-            return None;
-        }
-        let uses = self.nodes.variables(node)?;
+        let uses = self.action(Action {
+            direction: Direction::Output,
+            label,
+            node,
+        })?;
         Some(Shape {
             binds: VarSet::empty(),
             uses,
         })
     }
 
+    #[tactic(auto, using(crate::proofs::Shapes::shapes))]
     fn opening(&self, subject: NodeNo, pattern: NodeNo) -> Option<Shape>
         ensures { Shaped (content self.now) (step.Open subject pattern) result }
     {
@@ -163,6 +164,7 @@ impl Tables {
         })
     }
 
+    #[tactic(auto, using(crate::proofs::Shapes::shapes))]
     fn splitting(&self, subject: NodeNo, pattern: NodeNo) -> Option<Shape>
         ensures { Shaped (content self.now) (step.Split subject pattern) result }
     {
@@ -174,6 +176,7 @@ impl Tables {
         Some(Shape { binds, uses })
     }
 
+    #[tactic(auto, using(crate::proofs::Shapes::shapes))]
     fn equating(&self, left: NodeNo, right: NodeNo) -> Option<Shape>
         ensures { Shaped (content self.now) (step.Same left right) result }
     {
@@ -192,29 +195,20 @@ impl Tables {
         let Node::Seal { body, key } = self.nodes.get(n)? else {
             return None;
         };
-        match self.nodes.get(body)? {
-            Node::Var(_) => Some((body, key)),
-            _ => None,
-        }
+        matches!(self.nodes.get(body), Some(Node::Var(_))).then_some((body, key))
     }
 
     // Whether a node is a pair of two different variables.
     fn pairs_variables(&self, n: NodeNo) -> bool
         ensures { Decides result ((n.0 < length (content self.now).nodes) × SplitPattern (content self.now).nodes (node (content self.now).nodes n.0)) }
     {
-        match self.nodes.get(n) {
-            Some(Node::Pair { left, right }) => self.apart(left, right),
-            _ => false,
-        }
+        matches!(self.nodes.get(n), Some(Node::Pair { left, right }) if self.apart(left, right))
     }
 
     fn apart(&self, a: NodeNo, b: NodeNo) -> bool
         ensures { Decides result ((a.0 < length (content self.now).nodes) × (b.0 < length (content self.now).nodes) × Apart (node (content self.now).nodes a.0) (node (content self.now).nodes b.0)) }
     {
-        match (self.nodes.get(a), self.nodes.get(b)) {
-            (Some(Node::Var(x)), Some(Node::Var(y))) => x != y,
-            _ => false,
-        }
+        matches!((self.nodes.get(a), self.nodes.get(b)), (Some(Node::Var(x)), Some(Node::Var(y))) if x != y)
     }
 
     // The variables of a lawful action; none where its label or node is missing.

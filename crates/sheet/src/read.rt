@@ -1,6 +1,5 @@
 // Reading a sheet file.
-ghost use Rattle.std.specs.Prelude.{◌≡◌, ℕ, ◌≤◌, IfOk};
-ghost use Rattle.sheet.specs.View.{content};
+ghost use Rattle.std.specs.Prelude.{◌≡◌, IfOk};
 ghost use Rattle.entries.specs.Format.{file};
 ghost use Rattle.entries.specs.Reading.{OneReply, LawfulExactly, first_file};
 ghost use Rattle.sheet.specs.Loading.{Drafted, ReadInto};
@@ -40,6 +39,7 @@ fn read_tables(heap: Global, bytes: &[u8]) -> Result<Tables, SheetFault>
 
 impl Sheet {
     // The sheet that the program starts from.
+    #[tactic(auto, using(crate::proofs::Loading::first_drafted))]
     pub fn new(heap: Global) -> Result<Sheet, AllocError>
         ensures { IfOk result (λ s. file (content_of s) ≡ first_file) }
     {
