@@ -1,5 +1,6 @@
 -- What a matching holds, and what its calls answer.
 use Rattle.std.specs.Prelude.{◌≡◌, ℕ, ◌+◌, ◌^◌, ◌<◌, ◌≤◌, Bool, true, false, ◌⊎◌, List, [], length, take, Ok, Err, vec_items, Decides, Result}
+use Rattle.terms.specs.Tables.{nodes_in}
 use Rattle.terms.specs.declared.node.Node.{Node}
 use Rattle.terms.specs.Terms.{Term}
 use Rattle.unification.specs.Bindings.{val, Instance}
@@ -15,7 +16,7 @@ use Rattle.matching.specs.declared.matching.Matching.{Matching}
 
 -- the nodes that it matches
 abbrev pub nodes_of : Matching → List Node
-nodes_of m = vec_items m.solver.nodes.nodes
+nodes_of m = nodes_in m.solver.nodes
 
 -- its bindings, oldest first
 abbrev pub bound : Matching → List Binding

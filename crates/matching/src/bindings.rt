@@ -1,6 +1,8 @@
 // The bindings of a matching, oldest first, with an index from variables to them.
 ghost use Rattle.std.specs.Prelude.{◌≡◌, ℕ, ◌<◌, ◌≤◌, [], ◌++◌, length, take, IfOk, vec_len, vec_capacity};
 ghost use Rattle.std.proofs.Props.{props};
+ghost use Rattle.terms.specs.Sets.{bits};
+ghost use Rattle.terms.specs.Tables.{nodes_in};
 ghost use Rattle.terms.specs.declared.node.Node.TheVariants.{Var};
 ghost use Rattle.unification.specs.Bindings.{Good, Unbound, Within, Walked};
 ghost use Rattle.unification.specs.Index.{Indexed, Placed, Counted};
@@ -59,9 +61,9 @@ impl Bindings {
     // The node at which the walk from n through the bindings ends. That bindings are good is said of them and a table, which
     // no type here holds but the solver, and a part of it is changed while another is read.
     pub(crate) fn walk(&self, nodes: &NodeTable, n: NodeNo) -> NodeNo
-        requires good { ∥ Good nodes.now.nodes.items self.now.list.items ∥₁ }
-        requires within { n.0 < length nodes.now.nodes.items }
-        ensures { Walked nodes.now.nodes.items self.now.list.items n.0 result.0 }
+        requires good { ∥ Good (nodes_in nodes.now) self.now.list.items ∥₁ }
+        requires within { n.0 < length (nodes_in nodes.now) }
+        ensures { Walked (nodes_in nodes.now) self.now.list.items n.0 result.0 }
     {
         let table = nodes.as_slice();
         let mut here = n;
@@ -73,8 +75,8 @@ impl Bindings {
 
     // The set with the variables that one look through the bindings leads to.
     fn widen(&self, nodes: &NodeTable, reach: VarSet) -> VarSet
-        requires { Within nodes.now.nodes.items self.now.list.items }
-        ensures { Widened nodes.now.nodes.items self.now.list.items reach.0 result.0 }
+        requires { Within (nodes_in nodes.now) self.now.list.items }
+        ensures { Widened (nodes_in nodes.now) self.now.list.items (bits reach) (bits result) }
     {
         let mut all = reach;
         for b in &self.list {
@@ -88,10 +90,10 @@ impl Bindings {
 
     // Whether the variable of a new binding is reached from its node through terms and bindings.
     fn reaches(&self, nodes: &NodeTable, b: Binding) -> bool
-        requires good { ∥ Good nodes.now.nodes.items self.now.list.items ∥₁ }
-        requires within { b.node.0 < length nodes.now.nodes.items }
-        requires start { Start nodes.now.nodes.items self.now.list.items b.variable.0 b.node.0 }
-        ensures { Answered nodes.now.nodes.items self.now.list.items b.variable.0 b.node.0 result }
+        requires good { ∥ Good (nodes_in nodes.now) self.now.list.items ∥₁ }
+        requires within { b.node.0 < length (nodes_in nodes.now) }
+        requires start { Start (nodes_in nodes.now) self.now.list.items b.variable.0 b.node.0 }
+        ensures { Answered (nodes_in nodes.now) self.now.list.items b.variable.0 b.node.0 result }
     {
         let mut reach = nodes.variables(b.node).unwrap();
         while !reach.contains(b.variable) {
@@ -115,12 +117,12 @@ impl Bindings {
 
     // Takes the binding, unless its variable is reached from its node.
     pub(crate) fn assign(&mut self, nodes: &NodeTable, b: Binding) -> bool
-        requires good { ∥ Good nodes.now.nodes.items self.old.list.items ∥₁ }
-        requires within { b.node.0 < length nodes.now.nodes.items }
+        requires good { ∥ Good (nodes_in nodes.now) self.old.list.items ∥₁ }
+        requires within { b.node.0 < length (nodes_in nodes.now) }
         requires unbound { Unbound self.old.list.items b.variable.0 }
         requires narrow { b.variable.0 < 64 }
-        requires start { Start nodes.now.nodes.items self.old.list.items b.variable.0 b.node.0 }
-        ensures { Assigned nodes.now.nodes.items self.old.list.items b.variable.0 b.node.0 self.new.list.items result }
+        requires start { Start (nodes_in nodes.now) self.old.list.items b.variable.0 b.node.0 }
+        ensures { Assigned (nodes_in nodes.now) self.old.list.items b.variable.0 b.node.0 self.new.list.items result }
     {
         if self.reaches(nodes, b) {
             return false;

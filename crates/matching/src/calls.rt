@@ -1,5 +1,6 @@
 // What a matching does.
 ghost use Rattle.std.specs.Prelude.{◌≡◌, ℕ, ◌≤◌, [], length, take, IfOk};
+ghost use Rattle.terms.specs.Tables.{nodes_in};
 ghost use Rattle.sheet.specs.Sheets.{content_of};
 ghost use Rattle.unification.specs.Bindings.{Once, FreeValues, Extends};
 ghost use Rattle.matching.specs.Matchings.{nodes_of, bound, Matches, Opened};
@@ -19,8 +20,8 @@ const MOST_NODES: usize = 65536;
 impl Matching {
     // A matching of so few nodes that each has a number, with nothing bound. All memory is taken here.
     fn of_few(heap: Global, nodes: NodeTable) -> Result<Matching, AllocError>
-        requires { length nodes.nodes.items ≤ 65536 }
-        ensures { IfOk result (λ m. (nodes_of m ≡ nodes.nodes.items) × (bound m ≡ [])) }
+        requires { length (nodes_in nodes) ≤ 65536 }
+        ensures { IfOk result (λ m. (nodes_of m ≡ nodes_in nodes) × (bound m ≡ [])) }
     {
         let n = nodes.len();
         let bindings = Bindings::new(heap)?;
@@ -40,7 +41,7 @@ impl Matching {
 
     // A matching of these nodes, with nothing bound.
     pub fn over(heap: Global, nodes: NodeTable) -> Result<Matching, TableFault>
-        ensures { Opened nodes.nodes.items result }
+        ensures { Opened (nodes_in nodes) result }
     {
         if nodes.len() > MOST_NODES {
             return Err(TableFault::TooLong);

@@ -1,5 +1,6 @@
 // A matching: a table of nodes with the bindings so far, and the memory that a match works in.
 ghost use Rattle.std.specs.Prelude.{◌≡◌, ℕ, ◌<◌, length, vec_len};
+ghost use Rattle.terms.specs.Tables.{nodes_in};
 
 use crate::solver::Solver;
 use unification::Ask;
@@ -12,5 +13,5 @@ pub struct Matching {
     pub(crate) asks: Vec<Ask>,
     // every node is a class of its own between matches
     ghost calm: { vec_len solver.classes.linked ≡ 0 },
-    ghost roomy: { length solver.nodes.nodes.items < vec_len asks },
+    ghost roomy: { length (nodes_in solver.nodes) < vec_len asks },
 }

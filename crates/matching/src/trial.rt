@@ -2,6 +2,7 @@
 ghost use Rattle.std.specs.Prelude.{◌≡◌, ℕ, ◌≤◌, List, length, take};
 ghost use Rattle.unification.specs.Bindings.{Once, FreeValues, Extends};
 ghost use Rattle.matching.specs.Matchings.{nodes_of, bound, Matches, AllMatch, Already};
+ghost use Rattle.matching.specs.Trials.{found};
 
 use crate::fault::MatchFault;
 use crate::matching::Matching;
@@ -19,7 +20,7 @@ pub struct Trial<'a> {
 impl Drop for Trial<'_> {
     // The binding list is cut back to the length that the trial found.
     fn drop(self)
-        ensures bound { bound self.exit.0.now ≡ take self.entry.mark (bound self.entry.matching.now) }
+        ensures bound { bound self.exit.0.now ≡ take (found self.entry) (bound self.entry.matching.now) }
         ensures nodes { nodes_of self.exit.0.now ≡ nodes_of self.entry.matching.now }
     {
         let Trial { matching, mark } = self;
@@ -32,7 +33,7 @@ impl<'a> Trial<'a> {
     pub fn of(m: &'a mut Matching) -> Trial<'a>
         ensures same { result.matching.ghost_name ≡ m.entry.ghost_name }
         ensures matching { result.matching.now ≡ m.old }
-        ensures mark { result.mark ≡ length (bound m.old) }
+        ensures mark { found result ≡ length (bound m.old) }
     {
         let mark = m.bindings().len();
         Trial { matching: m, mark }
@@ -43,7 +44,7 @@ impl Trial<'_> {
     // As a match of the matching. A call of its own: it says too that the trial keeps what it found.
     pub fn matches(&mut self, a: NodeNo, b: NodeNo) -> Result<bool, MatchFault>
         ensures same { self.new.matching.ghost_name ≡ self.old.matching.ghost_name }
-        ensures mark { self.new.mark ≡ self.old.mark }
+        ensures mark { found self.new ≡ found self.old }
         ensures answer { Matches (nodes_of self.old.matching.now) (bound self.old.matching.now) a.0 b.0 result (bound self.new.matching.now) }
         ensures nodes { nodes_of self.new.matching.now ≡ nodes_of self.old.matching.now }
     {
@@ -63,7 +64,7 @@ impl Trial<'_> {
     // Matches these pairs one after another, up to one that cannot be made equal with those before it.
     fn match_each(&mut self, asks: &[Ask]) -> Result<bool, MatchFault>
         ensures same { self.new.matching.ghost_name ≡ self.old.matching.ghost_name }
-        ensures mark { self.new.mark ≡ self.old.mark }
+        ensures mark { found self.new ≡ found self.old }
         ensures nodes { nodes_of self.new.matching.now ≡ nodes_of self.old.matching.now }
         ensures front { (k : ℕ) → k ≤ length (bound self.old.matching.now) → take k (bound self.new.matching.now) ≡ take k (bound self.old.matching.now) }
         ensures answer { AllMatch (nodes_of self.old.matching.now) (bound self.old.matching.now) asks.now result }

@@ -7,6 +7,7 @@ use Rattle.terms.specs.declared.node.Node.{Node}
 use Rattle.terms.specs.declared.node.Node.TheVariants.{Name, Env, Var, Pair, Seal}
 use Rattle.terms.specs.declared.number.NodeNo.{NodeNo}
 use Rattle.terms.specs.declared.variables.VarSet.{VarSet}
+use Rattle.terms.specs.Sets.{bits}
 use Rattle.protocol.specs.declared.step.Step.{Step}
 use Rattle.protocol.specs.declared.step.Action.{Action}
 use Rattle.protocol.specs.Strands.{TermStep, input, output, opens, splits, same, Binds, step_of}
@@ -31,7 +32,7 @@ Mentions x (same s t) = Occurs x s ⊎ Occurs x t
 
 -- the set has just the variables with P
 abbrev pub Just : (ℕ → Type 0) → VarSet → Type 0
-Just P s = (x : ℕ) → (In x s.0 → P x) × (P x → In x s.0)
+Just P s = (x : ℕ) → (In x (bits s) → P x) × (P x → In x (bits s))
 
 -- the variables of a lawful step, or none where it is unlawful
 abbrev pub Shaped : Content → Step → Option Shape → Type 0

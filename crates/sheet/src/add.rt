@@ -2,7 +2,8 @@
 ghost use Rattle.std.specs.Prelude.{◌≡◌, true, false, map, Decides, MatchResult};
 ghost use Rattle.records.specs.Reading.{rec_of};
 ghost use Rattle.protocol.specs.Lawful.{PropertyLaw};
-ghost use Rattle.sheet.specs.View.{bytes_of, content};
+ghost use Rattle.sheet.specs.View.{content};
+ghost use Rattle.entries.specs.Texts.{bytes_of};
 ghost use Rattle.entries.specs.Format as format;
 ghost use Rattle.entries.specs.Rules.{InOrder, HasRoom};
 ghost use Rattle.entries.specs.Growth.{nothing};

@@ -1,6 +1,8 @@
 // What a sheet holds.
 ghost use Rattle.std.specs.Prelude.{◌≡◌, map, Some};
-ghost use Rattle.sheet.specs.View.{bytes_of, steps_of};
+ghost use Rattle.terms.specs.Tables.{nodes_in};
+ghost use Rattle.protocol.specs.Strands.{steps_of};
+ghost use Rattle.entries.specs.Texts.{bytes_of};
 ghost use Rattle.sheet.specs.Sheets.{content_of};
 
 use crate::sheet::Sheet;
@@ -38,7 +40,7 @@ impl Sheet {
 
     // The nodes as a table.
     pub fn table(&self) -> &NodeTable
-        ensures { result.now.nodes.items ≡ (content_of self.now).nodes }
+        ensures { nodes_in result.now ≡ (content_of self.now).nodes }
     {
         &self.tables.nodes
     }
