@@ -10,6 +10,7 @@ use crate::number::{NodeNo, VARIABLES};
 use crate::variables::VarSet;
 use std::alloc::{AllocError, Global};
 
+// It has no model: matching rests on the order of its nodes, a ghost field, which a view would hide.
 #[derive(Drop)]
 pub struct NodeTable {
     nodes: Vec<Node>,
