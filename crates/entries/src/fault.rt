@@ -32,6 +32,7 @@ pub enum SheetFault {
     NoMemory,
 }
 
+// Each fault has a case of its own for want of memory.
 impl<T: Drop> From<AllocFailed<T>> for SheetFault {
     ghost from_gives = { λ _ r. r ≡ NoMemory };
 

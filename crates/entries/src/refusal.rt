@@ -5,7 +5,7 @@ ghost use Rattle.entries.specs.Faults.{number as number_of, fault_number, fault_
 use crate::fault::{Rule, SheetFault};
 
 impl Rule {
-    // The number of the refusal where the rule is broken.
+    // The number of the refusal where the rule is broken. Each enum of faults has its own such call: a cast is of one enum.
     pub fn number(self) -> u16
         ensures { result ≡ number_of self }
     {

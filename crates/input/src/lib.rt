@@ -9,9 +9,9 @@ use std::io::Read;
 // The longest file that the programs look at.
 pub const LONGEST: usize = 8192;
 
-// Reads standard input up to its end or the buffer's, and says how many bytes came. The buffer is the caller's, of fixed
-// memory, so the count stands beside it. The library's own loops either read to the end of the input, into a vector, or
-// take an end before the buffer's for a fault.
+// Reads standard input up to its end or the buffer's, and says how many bytes came, as the library's `read` does: the buffer
+// is the caller's, and lent no longer than the call. The library's own loops either read to the end of the input, into a
+// vector, or take an end before the buffer's for a fault.
 pub fn read_input(rt: &HostRuntime, buf: &mut [u8]) -> io::Result<usize>
     ensures { IfOk result (λ n. n ≤ length buf.old) }
 {

@@ -1,5 +1,6 @@
 // The lines of a sheet: those of the texts, of the wide forms, of the strands and their steps, and of the property. The text
-// is handed to each call: a struct that holds it would have to lend it on to each closure.
+// is handed to each call: a struct that holds it would have to lend it on to each closure. What a call adds to the text is an
+// equation in its clause, since a word for it would say less.
 ghost use Rattle.std.specs.Prelude.{◌≡◌, ℕ, List, ◌++◌, map, string_bytes, OnOk};
 ghost use Rattle.sheet.specs.Sheets.{content_of};
 ghost use Rattle.protocol.specs.Strands.{steps_of};

@@ -14,6 +14,7 @@ pub fn show(heap: Global, bytes: &[u8]) -> Result<String, AllocError>
     match sheet.read(heap, bytes) {
         Ok(()) => listing(heap, &sheet),
         Err(SheetFault::Refused { rule, record }) => {
+            // in words here, since the fault's other case has none
             let number = rule.number();
             format!(in heap; "refused {number} {record}\n")
         }

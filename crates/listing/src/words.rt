@@ -34,7 +34,7 @@ impl<'a> Formed<'a> {
         Words { of: *self, part }
     }
 
-    // One for each sort of number, so that none is taken for another's.
+    // One for each sort of number: a trait of the three sorts would need as many functions.
     fn label(&self, label: Label) -> &'a str
         ensures { result.now ≡ text (content_of self.now.sheet.now).labels label.0 }
     {

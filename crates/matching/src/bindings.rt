@@ -10,10 +10,8 @@ ghost use Rattle.unification.specs.Reaching.{Widened, Start, Answered};
 ghost use Rattle.unification.specs.Steps.{with_binding, Assigned};
 
 use std::alloc::{AllocError, Global};
-use terms::{Node, NodeNo, NodeTable, VarSet};
+use terms::{Node, NodeNo, NodeTable, VARIABLES, VarSet};
 use unification::Binding;
-
-const VARIABLES: usize = 64;
 
 #[derive(Drop)]
 pub struct Bindings {
@@ -30,8 +28,8 @@ impl Bindings {
     pub(crate) fn new(heap: Global) -> Result<Bindings, AllocError>
         ensures { IfOk result (λ b. b.list.items ≡ []) }
     {
-        let list = Vec::with_capacity(heap, VARIABLES)?;
-        let index = vec![in heap; None; VARIABLES]?;
+        let list = Vec::with_capacity(heap, VARIABLES as usize)?;
+        let index = vec![in heap; None; VARIABLES as usize]?;
         Ok(Bindings { list, index })
     }
 
@@ -47,7 +45,8 @@ impl Bindings {
         self.list.as_slice()
     }
 
-    // The place of the binding of a node that is a bound variable.
+    // The place of the binding of a node that is a bound variable. The table says that its variables are below 64, and so do
+    // the three calls that take one: a type for such variables would be asked of whoever makes a node.
     fn place(&self, node: Node) -> Option<usize>
         requires { (x : ℕ) → node ≡ Var (record { 0 = x }) → x < 64 }
         ensures { Placed self.now.list.items node result }

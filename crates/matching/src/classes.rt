@@ -26,7 +26,7 @@ pub struct Classes {
 }
 
 impl Classes {
-    // Each of so many nodes a class of its own.
+    // Each of so many nodes a class of its own. That each has a number is asked once, in `Matching::over`.
     pub(crate) fn new(heap: Global, nodes: usize) -> Result<Classes, AllocError>
         requires { nodes ≤ 65536 }
         ensures { IfOk result (λ t. (vec_len t.parents ≡ nodes) × (t.linked.items ≡ [])) }
@@ -86,7 +86,7 @@ impl Classes {
         }
     }
 
-    // Makes every node a class of its own again.
+    // Makes every node a class of its own again: only between matches is that so, and no type says it but the matching's.
     pub(crate) fn reset(&mut self)
         ensures size { vec_len self.new.parents ≡ vec_len self.old.parents }
         ensures none { self.new.linked.items ≡ [] }

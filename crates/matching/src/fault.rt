@@ -12,7 +12,7 @@ pub enum MatchFault {
 }
 
 impl MatchFault {
-    // The number of the refusal.
+    // The number of the refusal. Each enum of faults has its own such call: a cast is of one enum.
     pub fn number(self) -> u16
         ensures { result ≡ fault_number self }
     {
@@ -27,6 +27,7 @@ pub enum TableFault {
     NoMemory,
 }
 
+// Each fault has a case of its own for want of memory.
 impl From<AllocError> for TableFault {
     ghost from_gives = { λ _ r. r ≡ NoMemory };
 

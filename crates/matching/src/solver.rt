@@ -23,8 +23,9 @@ pub struct Solver {
 
 impl Solver {
     // One waiting pair: yes, and what it asks is bound or waits; or no. The stack is over the caller's memory, so it is
-    // handed in; that a number is some node's is said of numbers, since no type of one table's nodes is plainer. That the
-    // nodes and the room of the stack stay is in each contract; a solver that borrowed the nodes would have to say it too.
+    // handed in; that a number is some node's is said of numbers: a type for the nodes of one table would be made again of
+    // each part that is read. That the nodes and the room of the stack stay is in each contract; a solver that borrowed the
+    // nodes would have to say it too.
     fn step(&mut self, asks: &mut Stack<'_, Ask>, w: Ask) -> bool
         requires left { w.left.0 < length (nodes_in self.old.nodes) }
         requires right { w.right.0 < length (nodes_in self.old.nodes) }

@@ -41,7 +41,8 @@ impl<'a> Trial<'a> {
 }
 
 impl Trial<'_> {
-    // As a match of the matching. A call of its own: it says too that the trial keeps what it found.
+    // As a match of the matching. A call of its own: it says too that the trial keeps what it found, and the loan, as a call
+    // on a struct with a `&mut` has to for its lender.
     pub fn matches(&mut self, a: NodeNo, b: NodeNo) -> Result<bool, MatchFault>
         ensures same { self.new.matching.ghost_name ≡ self.old.matching.ghost_name }
         ensures mark { found self.new ≡ found self.old }

@@ -62,13 +62,14 @@ fn show(rt: &HostRuntime, sheet: &Sheet) -> io::Result<()> {
 }
 
 fn main(rt: HostRuntime) -> io::Result<()> {
-    // fixed memory, so how many bytes came stands beside it
+    // fixed memory, and a public call that says how many bytes came
     let mut buf = [0u8; LONGEST];
     let n = read_input(&rt, &mut buf)?;
     let mut sheet = Sheet::new(rt.alloc())?;
     match sheet.read(rt.alloc(), &buf[..n]) {
         Ok(()) => show(&rt, &sheet),
         Err(SheetFault::Refused { rule, record }) => {
+            // in words here, since the fault's other case has none
             println!(rt; "refused {} {record}", rule.number())
         }
         // by hand: the fault keeps no error of the library, and a From would have to answer a refused file too

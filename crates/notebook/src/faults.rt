@@ -1,4 +1,4 @@
-// Why a notebook turns a call down, and by which number.
+// Why a notebook turns a call down, and by which number. Each enum has its own call for that: a cast is of one enum.
 ghost use Rattle.std.specs.Prelude.{◌≡◌};
 ghost use Rattle.notebook.specs.Calls.{put_fault_number, note_fault_number};
 

@@ -1,7 +1,7 @@
 // Two notebooks: one works derivability out at each question, one keeps the parts of what was noted.
 //
-// They pass the same calls on to their pages. One notebook over a type of what is kept would need the same six calls of
-// that type, so it would be no shorter.
+// They pass the same calls on to their pages. One notebook over a type of what is kept would need the same calls of that
+// type, but for `read`, so it would be no shorter.
 #![tactic(auto)]
 
 mod asking;

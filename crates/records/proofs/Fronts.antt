@@ -1,7 +1,7 @@
 -- The record at the front of bytes: one at most, and where it is cut.
-use Rattle.std.proofs.Common.{◌≡◌, ℕ, ◌+◌, ◌/◌, ◌%◌, ◌<◌, ◌≤◌, List, [], ◌∷◌, ◌++◌, length, get_or, take, drop, sym, refl, ap, ◌∙◌, ap₂, arith}
+use Rattle.std.proofs.Common.{◌≡◌, ℕ, ◌+◌, ◌-◌, ◌/◌, ◌%◌, ◌<◌, ◌≤◌, List, [], ◌∷◌, ◌++◌, length, get_or, take, drop, sym, refl, ap, ◌∙◌, ap₂, arith}
 use native.Mathlib.Nat.{div-add-mod}
-use Rattle.std.proofs.lemmas.List.{length-append, take-append-drop, take_at, drop_at}
+use Rattle.std.proofs.lemmas.List.{length-append, length-drop, drop-drop, take-append-drop, take_at, drop_at}
 use Rattle.std.specs.Int.{w16, from_le_bytes}
 use Rattle.std.specs.List.{IsSplitAt}
 use Rattle.records.specs.Bytes.{Rec, encode}
@@ -53,3 +53,12 @@ front_whole (a ∷ b ∷ c ∷ d ∷ cs) hs ts body ds len kind h p q small e f 
 -- a record is some bytes
 pub shorter : (cs ds : List ℕ) (r : Rec) → cs ≡ encode r ++ ds → length ds < length cs
 shorter cs ds r e = omega (arith, ap length e, length_encode r ds)
+
+-- the place after the record at a place
+pub moved : (bs cs ds : List ℕ) (at : ℕ) (r : Rec) → at ≤ length bs → cs ≡ drop at bs → cs ≡ encode r ++ ds → drop (length bs - length ds) bs ≡ ds
+moved bs cs ds at r l p e =
+    let n = length (encode r) in
+    let k : length (drop at bs) ≡ length bs - at = length-drop at bs in
+    let m : length (encode r ++ ds) ≡ n + length ds = length-append (encode r) ds in
+    let s : length bs - length ds ≡ at + n = omega (arith, k, m, ap length p, ap length e) in
+    ap (λ (i : ℕ). drop i bs) s ∙ sym (drop-drop n at bs) ∙ ap (drop n) (sym p ∙ e) ∙ drop_at (encode r) ds n refl

@@ -1,5 +1,5 @@
 -- What the record reader answers.
-use Rattle.std.specs.Prelude.{◌≡◌, ℕ, ◌+◌, List, [], ◌++◌, length, Some, None, Ok, Err, Option, Result}
+use Rattle.std.specs.Prelude.{◌≡◌, ℕ, ◌+◌, List, [], ◌++◌, length, drop, Some, None, Ok, Err, Option, Result}
 use Rattle.records.specs.declared.record.Record.{Record}
 use Rattle.records.specs.declared.record.FileFault.{FileFault}
 use Rattle.records.specs.declared.record.FileFault.TheVariants.{Cut}
@@ -8,7 +8,7 @@ use Rattle.records.specs.Bytes.{Rec, encode, encode_all, CutOff}
 
 -- the bytes that are still to be read
 abbrev pub rest : Records → List ℕ
-rest s = s.rest.now
+rest s = drop s.at s.bytes.now
 
 -- how many records have been handed out
 abbrev pub handed_out : Records → ℕ

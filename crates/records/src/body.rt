@@ -11,7 +11,8 @@ pub fn words<const N: usize>(body: &[u8]) -> Option<[u16; N]>
     if !odd.is_empty() || pairs.len() != N {
         return None;
     }
-    // by number, since nothing is known of a row after a loop over its places by reference
+    // by number: `map` wants to know that N is small, and `from_fn` tells of its calls one from another, which is no plainer
+    // to follow than the loop; after a loop over the places by reference nothing is known of the row
     let mut ws = [0; N];
     for (i, pair) in pairs.iter().enumerate() {
         ws[i] = u16::from_le_bytes(*pair);

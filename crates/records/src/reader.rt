@@ -1,5 +1,5 @@
-// The record reader: the part of lent bytes that is still to be read.
-ghost use Rattle.std.specs.Prelude.{◌≡◌, ◌+◌, ◌^◌, ◌<◌, length};
+// The record reader: a place in lent bytes. That it has one is a rule of the project; the bytes that are left would do.
+ghost use Rattle.std.specs.Prelude.{◌≡◌, ◌≤◌, length};
 
 mod reading;
 
@@ -7,9 +7,11 @@ pub use reading::scan;
 
 #[derive(Drop)]
 pub struct Records<'a> {
-    rest: &'a [u8],
+    bytes: &'a [u8],
+    at: usize,
     count: usize,
-    ghost counted: { count + length rest.now < 2 ^ 64 },
+    ghost within: { at ≤ length bytes.now },
+    ghost counted: { count ≤ at },
 }
 
 impl Records<'_> {

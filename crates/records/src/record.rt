@@ -3,6 +3,7 @@
 // a record of a file: its body is a part of the lent bytes
 #[derive(Clone, Copy)]
 pub struct Record<'a> {
+    // a number: which kinds there are, each kind of file says
     pub kind: u16,
     pub body: &'a [u8],
 }

@@ -126,7 +126,7 @@ impl Draft {
     }
 
     // The first two rules are asked here for every entry, so the calls below rest on both; to ask them again in each, so
-    // that none has to say so, would be no plainer.
+    // that none has to say so, would be no plainer. An entry is data, so there is a match, and each kind has its call.
     fn add_entry(&mut self, e: Entry) -> Result<(), Refusal>
         ensures { Entered (content self.old.tables) (entry_of e.entry) result (content self.new.tables) }
     {

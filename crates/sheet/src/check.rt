@@ -111,6 +111,7 @@ impl Tables {
         matches!(self.nodes.get(n), Some(Node::Name(_) | Node::Var(_)))
     }
 
+    // A step is data, of which the definitions speak, so there is a match, and each kind has its call.
     // The variables of a lawful step; none where a label, variable or node is missing or a pattern has the wrong form.
     pub(crate) fn shape(&self, step: Step) -> Option<Shape>
         ensures { Shaped (content self.now) step result }

@@ -1,4 +1,4 @@
-// What a sheet holds.
+// What a sheet holds. Labels, names and variables are three sorts, each asked for by a call of its own.
 ghost use Rattle.std.specs.Prelude.{◌≡◌, map, Some};
 ghost use Rattle.terms.specs.Tables.{nodes_in};
 ghost use Rattle.protocol.specs.Strands.{steps_of};

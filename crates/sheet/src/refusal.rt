@@ -37,6 +37,7 @@ impl From<Rule> for Refusal {
     }
 }
 
+// Each fault has a case of its own for want of memory.
 impl<T: Drop> From<AllocFailed<T>> for Refusal {
     ghost from_gives = { λ _ r. r ≡ NoMemory };
 

@@ -6,7 +6,7 @@ use listing::show;
 use std::io;
 
 fn main(rt: HostRuntime) -> io::Result<()> {
-    // fixed memory, so how many bytes came stands beside it
+    // fixed memory, and a public call that says how many bytes came
     let mut buf = [0u8; LONGEST];
     let n = read_input(&rt, &mut buf)?;
     let text = show(rt.alloc(), &buf[..n])?;

@@ -21,7 +21,7 @@ pub enum StackFault {
 impl StackFault {
     ghost use Rattle.stack.specs.Waiting.{fault_number};
 
-    // The number of the refusal.
+    // The number of the refusal. Each enum of faults has its own such call: a cast is of one enum.
     pub fn number(self) -> u16
         ensures { result ≡ fault_number self }
     {

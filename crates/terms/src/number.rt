@@ -12,13 +12,13 @@ pub struct LocalName(pub u16);
 #[derive(Clone, Copy, Debug, PartialEq, Eq, PartialOrd, Ord)]
 pub struct EnvName(pub u16);
 
-// the number of a variable in a table or a set is below this, so that the variables of a term are the bits of a word
-pub(crate) const VARIABLES: u16 = 64;
+// The number of a variable in a table or a set is below this, so that the variables of a term are the bits of a word.
+pub const VARIABLES: u16 = 64;
 
 #[derive(Clone, Copy, Debug, PartialEq, Eq, PartialOrd, Ord)]
 pub struct Variable(pub u16);
 
-// the place of a node in its table
+// the place of a node in its table; where it is an index, `.0 as usize` is as short as a conversion would be
 #[derive(Clone, Copy, Debug, PartialEq, Eq, PartialOrd, Ord)]
 pub struct NodeNo(pub u16);
 

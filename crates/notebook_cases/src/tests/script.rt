@@ -68,7 +68,8 @@ fn holds<N: Notebook>(book: &mut N, step: Step) -> bool {
     }
 }
 
-// What every case needs: the handle that ends it where it fails, and memory.
+// What every case needs: the handle that ends it where it fails, and memory. The reader's tests have the like, in a crate
+// of their own: one more crate for both would be longer.
 #[derive(Drop)]
 pub struct Tester<'a, R> {
     pub rt: &'a R,

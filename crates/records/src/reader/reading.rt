@@ -25,22 +25,25 @@ impl<'a> Records<'a> {
         ensures count { handed_out result ≡ 0 }
     {
         Records {
-            rest: bytes,
+            bytes,
+            at: 0,
             count: 0,
         }
     }
 
     // The next record, or none at the end of the bytes.
+    #[tactic(auto, using(crate::proofs::Fronts::moved, crate::proofs::Fronts::shorter))]
     pub fn next(&mut self) -> Result<Option<Record<'a>>, FileFault>
         ensures { Next (rest self.old) (handed_out self.old) result (rest self.new) (handed_out self.new) }
     {
-        if self.rest.is_empty() {
+        let left = &self.bytes[self.at..];
+        if left.is_empty() {
             return Ok(None);
         }
-        let Some((found, after)) = front(self.rest) else {
+        let Some((found, after)) = front(left) else {
             return Err(FileFault::Cut(self.count));
         };
-        self.rest = after;
+        self.at = self.bytes.len() - after.len();
         self.count += 1;
         Ok(Some(found))
     }

@@ -20,10 +20,7 @@ pub const FIRST: &'static [u8; 50] = b"\x01\0\x01\0a\
 
 // There is one text, and it is this one.
 fn is_text(texts: &[Text], expected: &[u8]) -> bool {
-    match texts {
-        [text] => text.as_bytes() == expected,
-        _ => false,
-    }
+    matches!(texts, [text] if text.as_bytes() == expected)
 }
 
 // There is one strand, with one step: an output on label 0 of node 0.
@@ -32,10 +29,7 @@ fn is_output(strands: &[Strand]) -> bool {
         label: Label(0),
         node: NodeNo(0),
     };
-    match strands {
-        [strand] => strand.steps() == [output].as_slice(),
-        _ => false,
-    }
+    matches!(strands, [strand] if strand.steps() == [output].as_slice())
 }
 
 fn expect_first(rt: &impl Abort, sheet: &Sheet) {

@@ -5,7 +5,7 @@ use crate::reply::{Refused, Reply, reply_of, reply_to};
 use crate::tests::base::Place;
 use crate::tests::written::file_of;
 use sheet::Sheet;
-use std::alloc::Global;
+use std::alloc::{AllocError, Global};
 use std::process::Abort;
 use std::test::Fail;
 
@@ -24,7 +24,8 @@ pub(crate) use refused;
 // What follows a base, and how the file is refused.
 pub struct Case<'a>(pub &'a [Entry<'a>], pub Refused);
 
-// What every case needs: the handle that ends it where it fails, and memory.
+// What every case needs: the handle that ends it where it fails, and memory. The notebooks' tests have the like, in a crate
+// of their own: one more crate for both would be longer.
 #[derive(Drop)]
 pub struct Tester<'a, R> {
     pub rt: &'a R,
@@ -64,12 +65,17 @@ impl<R: Abort> Tester<'_, R> {
         Ok(())
     }
 
+    // The reply to a file that goes on with these.
+    fn reply_after(&self, base: &SheetFile, next: &[Entry]) -> Result<Reply, AllocError> {
+        let mut file = base.clone()?;
+        file.entries(next)?;
+        reply_to(self.heap, file.as_bytes())
+    }
+
     // The replies to these cases, in a row of tables that has the number.
     pub fn expect_cases(&self, base: &SheetFile, cases: &[Case], row: usize) -> Result<(), Fail> {
         for (i, Case(next, refused)) in cases.iter().enumerate() {
-            let mut file = base.clone()?;
-            file.entries(*next)?;
-            let reply = reply_to(self.heap, file.as_bytes())?;
+            let reply = self.reply_after(base, *next)?;
             assert_eq!(self.rt; reply, Err(*refused), "row {row}, case {i}");
         }
         Ok(())
@@ -80,16 +86,14 @@ impl<R: Abort> Tester<'_, R> {
         for place in places {
             let base = place.file(self.heap)?;
             for (i, e) in next.iter().enumerate() {
-                let mut file = base.clone()?;
-                file.entry(*e)?;
-                let reply = reply_to(self.heap, file.as_bytes())?;
+                let reply = self.reply_after(&base, &[*e])?;
                 assert_eq!(self.rt; reply, Err(refused!(number, place.record())), "entry {i}");
             }
         }
         Ok(())
     }
 
-    // The file is taken, and the queries of the sheet then say what it says.
+    // The file is taken, and the queries of the sheet then say what it says: as the two above, but a failure names the file.
     pub fn expect_whole(&self, file: &SheetFile, i: usize) -> Result<(), Fail> {
         let mut sheet = Sheet::new(self.heap)?;
         let reply = reply_of(sheet.read(self.heap, file.as_bytes()))?;

@@ -27,11 +27,11 @@ const BAD: [&'static [u8]; 12] = [
 
 // A label, a name and a variable with this text are each refused.
 fn expect_bad<R: Abort>(t: &Tester<'_, R>, text: &[u8], i: usize) -> Result<(), Fail> {
-    for kind in 1..4 {
+    for e in [Label(text), Name(text), Variable(text)] {
         let mut file = SheetFile::new(t.heap);
-        file.record(kind, text)?;
+        file.entry(e)?;
         let reply = reply_to(t.heap, file.as_bytes())?;
-        assert_eq!(t.rt; reply, Err(refused!(4, 0)), "text {i}, kind {kind}");
+        assert_eq!(t.rt; reply, Err(refused!(4, 0)), "text {i}, {e:?}");
     }
     Ok(())
 }
@@ -57,9 +57,8 @@ const REST: [Entry<'static>; 3] = [
 // Two labels, two names and two variables may all have this text.
 fn expect_good<R: Abort>(t: &Tester<'_, R>, text: &[u8], i: usize) -> Result<(), Fail> {
     let mut file = SheetFile::new(t.heap);
-    for kind in 1..4 {
-        file.record(kind, text)?;
-        file.record(kind, text)?;
+    for e in [Label(text), Name(text), Variable(text)] {
+        file.repeat(e, 2)?;
     }
     file.entries(&REST)?;
     t.expect_whole(&file, i)
