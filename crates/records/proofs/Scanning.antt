@@ -3,8 +3,8 @@ use Rattle.std.proofs.Common.{◌≡◌, ℕ, ◌+◌, ◌⊎◌, List, [], ◌�
 use Rattle.std.proofs.lemmas.List.{append_assoc, append-nil, flat_map_more, length_push}
 use Rattle.records.specs.declared.record.FileFault.{FileFault}
 use Rattle.records.specs.declared.record.FileFault.TheVariants.{Cut}
-use Rattle.records.specs.Bytes.{Rec, encode, encode_all}
-use Rattle.records.specs.Reading.{Begins, Next, Scanned, OneScan}
+use Rattle.records.specs.Bytes.{Rec, encode, encode_all, Recordless}
+use Rattle.records.specs.Reading.{Begins, Next, Scanned, OneScan, OneList}
 use Rattle.records.proofs.Fronts.{one_front}
 
 -- one record more at the end
@@ -17,10 +17,6 @@ begins_more bs n m cs ds r b e f =
 
 pub begins_all : (bs : List ℕ) (n m : ℕ) (cs : List ℕ) → Begins bs n cs → cs ≡ [] → m ≡ n → Scanned bs (Ok m)
 begins_all bs n m cs b e f = (b.0, b.1 ∙ sym f, b.2 ∙ ap (λ (l : List ℕ). encode_all b.0 ++ l) e ∙ append-nil (encode_all b.0))
-
--- no whole record stands at the front
-abbrev pub Recordless : List ℕ → Type 0
-Recordless bs = (r : Rec) (more : List ℕ) → ¬ (bs ≡ encode r ++ more)
 
 pub nil_recordless : Recordless []
 nil_recordless r more e = omega (arith, ap length e)
@@ -43,7 +39,7 @@ stays : (rs ss : List Rec) (qs : List Rec) (x y : List ℕ) → Recordless x →
 stays rs ss [] x y n e f = (sym (e ∙ append-nil rs), f)
 stays rs ss (q ∷ qs) x y n e f = absurd (n q (encode_all qs ++ y) (f ∙ append_assoc (encode q) (encode_all qs) y))
 
-pub one_way : (rs ss : List Rec) (x y : List ℕ) → encode_all rs ++ x ≡ encode_all ss ++ y → Recordless x → Recordless y → (rs ≡ ss) × (x ≡ y)
+pub one_way : OneList
 one_way rs ss x y e n m =
     ⊎_elim
     (λ q. stays rs ss q.0 x y n q.1 q.2)

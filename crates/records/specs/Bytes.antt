@@ -19,6 +19,10 @@ encode r = word (length r.body) ++ (word r.kind ++ r.body)
 abbrev pub encode_all : List Rec → List ℕ
 encode_all rs = flat_map encode rs
 
+-- no whole record stands at the front
+abbrev pub Recordless : List ℕ → Type 0
+Recordless bs = (r : Rec) (more : List ℕ) → ¬ (bs ≡ encode r ++ more)
+
 -- there are bytes, and no whole record stands at their front
 abbrev pub CutOff : List ℕ → Type 0
-CutOff bs = ¬ (bs ≡ []) × ((r : Rec) (more : List ℕ) → ¬ (bs ≡ encode r ++ more))
+CutOff bs = ¬ (bs ≡ []) × Recordless bs

@@ -4,7 +4,7 @@ use Rattle.records.specs.declared.record.Record.{Record}
 use Rattle.records.specs.declared.record.FileFault.{FileFault}
 use Rattle.records.specs.declared.record.FileFault.TheVariants.{Cut}
 use Rattle.records.specs.declared.reader.Records.{Records}
-use Rattle.records.specs.Bytes.{Rec, encode, encode_all, CutOff}
+use Rattle.records.specs.Bytes.{Rec, encode, encode_all, Recordless, CutOff}
 
 -- the bytes that are still to be read
 abbrev pub rest : Records → List ℕ
@@ -32,6 +32,10 @@ Scanned bs (Err (Cut n)) = (rs : List Rec) × (more : List ℕ) × (length rs �
 abbrev pub Begins : List ℕ → ℕ → List ℕ → Type 0
 Begins bs n more = (rs : List Rec) × (length rs ≡ n) × (bs ≡ encode_all rs ++ more)
 
--- bytes are the records of one list at most, and are cut in one place at most
+-- bytes are the records of one list at most, up to a place where no whole record stands, and of one such place at most
+abbrev pub OneList : Type 0
+OneList = (rs ss : List Rec) (x y : List ℕ) → encode_all rs ++ x ≡ encode_all ss ++ y → Recordless x → Recordless y → (rs ≡ ss) × (x ≡ y)
+
+-- so there is one answer
 abbrev pub OneScan : Type 0
 OneScan = (bs : List ℕ) (r s : Result ℕ FileFault) → Scanned bs r → Scanned bs s → r ≡ s

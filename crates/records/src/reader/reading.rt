@@ -1,7 +1,7 @@
 // What the reader does.
 ghost use Rattle.std.specs.Prelude.{◌≡◌, ℕ, List, ◌++◌, MatchOption};
 ghost use Rattle.records.specs.Bytes.{Rec, encode};
-ghost use Rattle.records.specs.Reading.{rest, handed_out, rec_of, Next, Scanned, OneScan};
+ghost use Rattle.records.specs.Reading.{rest, handed_out, rec_of, Next, Scanned, OneScan, OneList};
 
 use crate::reader::Records;
 use crate::record::{FileFault, Record};
@@ -49,10 +49,11 @@ impl<'a> Records<'a> {
     }
 }
 
-// How many records the bytes are, or after how many they are cut.
+// How many records the bytes are, or after how many they are cut; and these are the records of one list.
 pub fn scan(bytes: &[u8]) -> Result<usize, FileFault>
     ensures cases { Scanned bytes.now result }
     ensures unique { OneScan }
+    ensures list { OneList }
 {
     let mut records = Records::new(bytes);
     while let Some(_) = records.next()? {}
