@@ -1,5 +1,5 @@
 -- One entry more: what is sound stays sound, and the entries are one more.
-use Rattle.std.proofs.Common.{◌≡◌, ℕ, ◌<◌, ◌≤◌, ◌⊎◌, List, [], ◌∷◌, ◌++◌, length, get_or, Some, None, Option, sym, ap, ◌∙◌, subst, inl, inr, arith}
+use Rattle.std.proofs.Common.{◌≡◌, ℕ, ◌<◌, ◌≤◌, ◌⊎◌, List, [], ◌∷◌, ◌++◌, length, get_or, Some, None, Option, refl, sym, ap, ◌∙◌, subst, inl, inr, arith}
 use native.Mathlib.Decide.{dec_lt}
 use Rattle.std.specs.List.{AllByRecursion}
 use Rattle.std.proofs.lemmas.List.{length_push, length-set, get_or_append_left, get_or_push}
@@ -19,7 +19,7 @@ use Rattle.entries.specs.declared.fault.Rule.TheVariants as r
 use Rattle.entries.specs.Format as f
 use Rattle.entries.specs.Format.{Entry, entries}
 use Rattle.entries.specs.Rules.{InOrder, KeepsBelow, latest, latest_steps}
-use Rattle.entries.specs.Growth.{with_label, with_name, with_variable, with_node, with_strand, with_step, with_property, Adds}
+use Rattle.entries.specs.Growth.{with_label, with_name, with_variable, with_node, with_strand, with_step, with_property, Adds, nothing}
 use Rattle.entries.proofs.Coding.{node_entry_one, step_entry_one, property_entry_one}
 use Rattle.entries.proofs.Places.{at_none, longer, at_keeps, at_more, longer_lengths, empty_more}
 use Rattle.entries.proofs.Listing.{label_entries, name_entries, variable_entries, node_entries, strand_entries_more, step_entries, property_entries_more}
@@ -47,6 +47,9 @@ module _ (C : Content) (no-strands : C.strands ≡ []) (no_property : C.property
     bound_before = λ k i p a. absurd (at_none _ k i p no-strands a);
     property_stands = no_property_in C no_property;
   }
+
+pub sound_nothing : Sound nothing
+sound_nothing = early nothing refl refl (omega arith) (omega arith) (omega arith) (omega arith) tt tt tt (λ i h. absurd (omega (arith, h)))
 
 -- in no nodes each stands
 no_nodes : (C : Content) → C.nodes ≡ [] → (i : ℕ) → i < length C.nodes → NodeLaw C i (node C.nodes i)

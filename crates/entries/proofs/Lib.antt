@@ -9,3 +9,4 @@ pub mod Places
 pub mod Listing
 pub mod Growing
 pub mod First
+pub mod Filing

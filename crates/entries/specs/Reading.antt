@@ -1,5 +1,6 @@
 -- What reading a sheet file answers.
-use Rattle.std.specs.Prelude.{◌≡◌, ℕ, List, [], ◌∷◌, ◌++◌, length, None}
+use Rattle.std.specs.Prelude.{◌≡◌, ℕ, ◌<◌, List, [], ◌∷◌, ◌++◌, length, None}
+use Rattle.std.specs.List.{AllByRecursion}
 use Rattle.records.specs.Bytes.{Rec, encode, CutOff}
 use Rattle.protocol.specs.Lawful.{Content, Sound, Lawful}
 use Rattle.entries.specs.declared.fault.Rule.{Rule}
@@ -44,6 +45,10 @@ LawfulExactly =
     (C : Content) →
     (Lawful C → Reads (file C) (taken C) × ((p : Reply) → Reads (file C) p → p ≡ taken C))
     × ((bs : List ℕ) → Reads bs (taken C) → Lawful C)
+
+-- and it is bytes
+abbrev pub FilesAreBytes : Type 0
+FilesAreBytes = (C : Content) → Lawful C → AllByRecursion (λ b. b < 256) (file C)
 
 -- the file of the first sheet, in fifty bytes
 abbrev pub first_file : List ℕ

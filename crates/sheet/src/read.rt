@@ -1,7 +1,7 @@
 // Reading a sheet file.
 ghost use Rattle.std.specs.Prelude.{◌≡◌, IfOk};
 ghost use Rattle.entries.specs.Format.{file};
-ghost use Rattle.entries.specs.Reading.{OneReply, LawfulExactly, first_file};
+ghost use Rattle.entries.specs.Reading.{OneReply, LawfulExactly, FilesAreBytes, first_file};
 ghost use Rattle.sheet.specs.Loading.{Drafted, ReadInto};
 ghost use Rattle.sheet.specs.Sheets.{content_of};
 
@@ -52,11 +52,12 @@ impl Sheet {
     }
 
     // Reads a file into this sheet. Where the file is refused, the sheet stays as it was.
-    #[tactic(auto, using(crate::proofs::Loading::lawful_taken, crate::proofs::Loading::lawful_exactly, entries::proofs::OneReply::one_reply))]
+    #[tactic(auto, using(crate::proofs::Loading::lawful_taken, crate::proofs::Loading::lawful_exactly, entries::proofs::OneReply::one_reply, entries::proofs::Filing::files_are_bytes))]
     pub fn read(&mut self, heap: Global, bytes: &[u8]) -> Result<(), SheetFault>
         ensures reply { ReadInto (content_of self.old) bytes.now result (content_of self.new) }
         ensures one { OneReply }
         ensures lawful { LawfulExactly }
+    ensures bytes { FilesAreBytes }
     {
         let tables = read_tables(heap, bytes)?;
         *self = Sheet { tables };
