@@ -1,5 +1,5 @@
 -- The bytes of a text: the library's test of a printable byte, and what the law of texts says of each.
-use Rattle.std.proofs.Common.{◌≡◌, ℕ, zero, suc, ◌≤◌, true, leb, List, [], ◌∷◌, Some, Ok, Err, Result, refl, sym, arith}
+use Rattle.std.proofs.Common.{◌≡◌, ℕ, zero, suc, ◌-◌, ◌≤◌, true, leb, List, [], ◌∷◌, take, Some, Ok, Err, Result, refl, sym, arith}
 use Rattle.std.specs.Char.{is_ascii_graphic}
 use Rattle.std.specs.List.{AllByRecursion, list_all}
 use Rattle.std.specs.Result.{IfOk, result_ok}
@@ -18,6 +18,10 @@ printable_bytes (b ∷ bs) t =
 pub bytes_printable : (bs : List ℕ) → AllByRecursion (λ b. (33 ≤ b) × (b ≤ 126)) bs → list_all is_ascii_graphic bs ≡ true
 bytes_printable [] a = refl
 bytes_printable (b ∷ bs) a = and_from _ _ (and_from _ _ (le-leb 33 b a.0.0) (le-leb b 126 a.0.1)) (bytes_printable bs a.1)
+
+-- the front of a list of bytes, where it is printable
+pub text_part : (bs : List ℕ) (n : ℕ) → list_all is_ascii_graphic (take n bs) ≡ true → (take (n - 0) bs ≡ take n bs) × AllByRecursion (λ b. (33 ≤ b) × (b ≤ 126)) (take (n - 0) bs)
+text_part bs n t = let z : n - 0 ≡ n = omega arith in rw z (refl, printable_bytes (take n bs) t)
 
 ascii : (bs : List ℕ) → AllByRecursion (λ b. (33 ≤ b) × (b ≤ 126)) bs → IsAscii bs
 ascii [] a i = omega arith

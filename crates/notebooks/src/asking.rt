@@ -1,6 +1,6 @@
 // The notebook that works derivability out at each question.
 ghost use Rattle.notebooks.specs.Lists.{nodes_of, noted_of};
-ghost use Rattle.notebooks.specs.Paging.{lists_lawful};
+ghost use Rattle.notebooks.specs.Paging.{pages_lawful};
 
 use crate::marks::Marks;
 use crate::page::Pages;
@@ -18,7 +18,7 @@ impl Notebook for AskingNotebook {
 
     ghost noted = { λ b. noted_of b.pages };
 
-    ghost lists = { λ b. lists_lawful b.pages };
+    ghost lists = { λ b. pages_lawful b.pages };
 
     fn new(heap: Global) -> Result<AskingNotebook, AllocError> {
         let pages = Pages::new(heap)?;

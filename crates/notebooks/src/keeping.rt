@@ -3,7 +3,7 @@ ghost use Rattle.std.specs.Prelude.{◌≤◌, vec_capacity};
 ghost use Rattle.analysis.specs.Parts.{Parts};
 ghost use Rattle.notebook.specs.Limits.{most_nodes};
 ghost use Rattle.notebooks.specs.Lists.{nodes_of, noted_of};
-ghost use Rattle.notebooks.specs.Paging.{lists_lawful};
+ghost use Rattle.notebooks.specs.Paging.{pages_lawful};
 
 use crate::marks::Known;
 use crate::page::Pages;
@@ -25,7 +25,7 @@ impl Notebook for KeepingNotebook {
 
     ghost noted = { λ b. noted_of b.pages };
 
-    ghost lists = { λ b. lists_lawful b.pages };
+    ghost lists = { λ b. pages_lawful b.pages };
 
     fn new(heap: Global) -> Result<KeepingNotebook, AllocError> {
         let pages = Pages::new(heap)?;

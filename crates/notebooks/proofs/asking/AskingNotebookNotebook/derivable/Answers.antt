@@ -1,7 +1,8 @@
 use Rattle.std.proofs.Common.{length, ap, ◌∙◌}
 use Rattle.analysis.proofs.Marking.{settled_parts}
 use Rattle.notebooks.specs.Lists.{nodes_of, noted_of}
-use Rattle.notebooks.proofs.Paging.{blank_take, parts_answer}
+use Rattle.notebooks.proofs.Rows.{blank_take}
+use Rattle.notebooks.proofs.Paging.{parts_answer}
 use Rattle.notebooks.proofs.asking.AskingNotebookNotebook.derivable.Goals as goal
 
 pub mark_noted-requires : goal.mark_noted-requires

@@ -1,6 +1,6 @@
 use Rattle.std.proofs.Common.{◌≡◌, length, sym, ap, ◌∙◌}
 use Rattle.std.proofs.lemmas.List.{with_items_is}
-use Rattle.notebooks.proofs.Paging.{note_refused, note_parts}
+use Rattle.notebooks.proofs.Rows.{note_refused, note_parts}
 use Rattle.notebooks.proofs.keeping.KeepingNotebookNotebook.note.Goals as goal
 
 pub invariant_of-self : goal.invariant_of-self

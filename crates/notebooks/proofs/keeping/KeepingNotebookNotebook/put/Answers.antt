@@ -1,4 +1,4 @@
-use Rattle.notebooks.proofs.Paging.{put_refused, put_parts}
+use Rattle.notebooks.proofs.Rows.{put_refused, put_parts}
 use Rattle.notebooks.proofs.keeping.KeepingNotebookNotebook.put.Goals as goal
 
 pub invariant_of-self : goal.invariant_of-self
