@@ -1,18 +1,19 @@
--- What a notebook can hold. The code's constants of the same names are in src/limits.rt.
+-- What a notebook can hold. The numbers are those of src/limits.rt.
 use Rattle.std.specs.Prelude.{ℕ}
+use Rattle.notebook.specs.declared.limits.TheConstants.{MOST_NODES, MOST_NOTES, LOCAL_NAMES, ENV_NAMES}
 
 -- the most nodes
 abbrev pub most_nodes : ℕ
-most_nodes = 768
+most_nodes = MOST_NODES
 
 -- the most noted places
 abbrev pub most_notes : ℕ
-most_notes = 128
+most_notes = MOST_NOTES
 
 -- local names have numbers below this
 abbrev pub local_names : ℕ
-local_names = 64
+local_names = LOCAL_NAMES
 
 -- names of the environment have numbers below this
 abbrev pub env_names : ℕ
-env_names = 256
+env_names = ENV_NAMES

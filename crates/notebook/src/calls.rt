@@ -1,6 +1,6 @@
 // Rows of calls on any notebook, and that all notebooks answer them alike.
-ghost use Rattle.std.specs.Prelude.{[], IfOk};
-ghost use Rattle.notebook.specs.Replies.{Replies, Plays, Agreed, OnePlay};
+ghost use Rattle.std.specs.Prelude.{◌≡◌, ◌≤◌, [], length, vec_capacity, IfOk, OnErr};
+ghost use Rattle.notebook.specs.Replies.{Replies, Plays, Unchanged, Agreed, OnePlay};
 
 use crate::faults::{NoteFault, PutFault};
 use crate::interface::Notebook;
@@ -41,25 +41,36 @@ fn answer<N: Notebook>(book: &mut N, one: Call) -> Reply
     }
 }
 
-// Clears a notebook, makes the calls on it in turn, and answers its replies.
+// Clears a notebook, makes the calls on it in turn, and writes its replies to a list that has room for them.
 #[tactic(auto, using(crate::proofs::Once::plays_none, crate::proofs::Once::plays_next))]
+fn play<N: Notebook>(book: &mut N, calls: &[Call], out: &mut Vec<Reply>)
+    requires empty { out.old.items ≡ [] }
+    requires room { length calls.now ≤ vec_capacity out.old }
+    ensures { Plays calls.now [] [] out.new.items (N.Notebook.nodes book.new) (N.Notebook.noted book.new) }
+{
+    book.clear();
+    for one in calls {
+        let reply = answer(book, *one);
+        out.push_reserved(reply);
+    }
+}
+
+// Clears a notebook, makes the calls on it in turn, and answers its replies.
 pub fn replies<N: Notebook>(
     heap: Global,
     book: &mut N,
     calls: &[Call],
 ) -> Result<Vec<Reply>, AllocError>
-    ensures { IfOk result (λ v. Plays calls.now [] [] v.items (N.Notebook.nodes book.new) (N.Notebook.noted book.new)) }
+    ensures plays { IfOk result (λ v. Plays calls.now [] [] v.items (N.Notebook.nodes book.new) (N.Notebook.noted book.new)) }
+    ensures kept { OnErr result (Unchanged (N.Notebook.nodes book.old) (N.Notebook.noted book.old) (N.Notebook.nodes book.new) (N.Notebook.noted book.new)) }
 {
-    let mut out = Vec::new(heap);
-    book.clear();
-    for one in calls {
-        let reply = answer(book, *one);
-        out.push(reply)?;
-    }
+    let mut out = Vec::with_capacity(heap, calls.len())?;
+    play(book, calls, &mut out);
     Ok(out)
 }
 
-// Two notebooks of any kinds give the same replies to every row of calls, and hold the same then.
+// Two notebooks of any kinds give the same replies to every row of calls, and hold the same then. Both lists of replies
+// are made before a call, so that want of memory leaves both notebooks as they were.
 #[tactic(auto, using(crate::proofs::Once::one_play))]
 pub fn agree<A: Notebook, B: Notebook>(
     heap: Global,
@@ -68,9 +79,13 @@ pub fn agree<A: Notebook, B: Notebook>(
     calls: &[Call],
 ) -> Result<(Vec<Reply>, Vec<Reply>), AllocError>
     ensures agreed { IfOk result (λ p. Agreed calls.now p.0.items p.1.items (A.Notebook.nodes a.new) (B.Notebook.nodes b.new) (A.Notebook.noted a.new) (B.Notebook.noted b.new)) }
+    ensures a_kept { OnErr result (Unchanged (A.Notebook.nodes a.old) (A.Notebook.noted a.old) (A.Notebook.nodes a.new) (A.Notebook.noted a.new)) }
+    ensures b_kept { OnErr result (Unchanged (B.Notebook.nodes b.old) (B.Notebook.noted b.old) (B.Notebook.nodes b.new) (B.Notebook.noted b.new)) }
     ensures one { OnePlay }
 {
-    let first = replies(heap, a, calls)?;
-    let second = replies(heap, b, calls)?;
+    let mut first = Vec::with_capacity(heap, calls.len())?;
+    let mut second = Vec::with_capacity(heap, calls.len())?;
+    play(a, calls, &mut first);
+    play(b, calls, &mut second);
     Ok((first, second))
 }

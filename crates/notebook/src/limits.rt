@@ -1,4 +1,4 @@
-// What a notebook can hold. The definitions of the same names that contracts cite are in specs/Limits.antt.
+// What a notebook can hold. The words for these numbers that contracts cite are in specs/Limits.antt.
 
 pub const MOST_NODES: usize = 768;
 

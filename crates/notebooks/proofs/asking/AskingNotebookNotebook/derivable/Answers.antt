@@ -1,12 +1,13 @@
 use Rattle.std.proofs.Common.{length, ap, ◌∙◌}
 use Rattle.analysis.proofs.Marking.{settled_parts}
+use Rattle.notebook.specs.Limits.{most_nodes}
 use Rattle.notebooks.specs.Lists.{nodes_of, noted_of}
 use Rattle.notebooks.proofs.Rows.{blank_take}
 use Rattle.notebooks.proofs.Paging.{parts_answer}
 use Rattle.notebooks.proofs.asking.AskingNotebookNotebook.derivable.Goals as goal
 
 pub mark_noted-requires : goal.mark_noted-requires
-mark_noted-requires c = blank_take 768 c.len.result
+mark_noted-requires c = blank_take most_nodes c.len.result
 
 pub returns : goal.returns
 returns c =
