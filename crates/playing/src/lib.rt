@@ -1,0 +1,25 @@
+// The rules of a bench over terms: what each of its calls answers, and what is then the case. Whatever plays by them, with
+// whatever notebook, answers alike, and its run is a run of the sheet.
+#![tactic(auto)]
+
+ghost use Rattle.playing.specs.Laws.{OneWrite, OneFeed, OneMove, PlaysRun};
+
+mod calls;
+mod faults;
+
+pub use calls::Call;
+pub use faults::{StepFault, WriteFault};
+
+// Each call has one answer, and leaves one situation.
+#[tactic(auto, using(crate::proofs::Once::one_feed, crate::proofs::Once::one_move))]
+pub fn answers_are_one()
+    ensures write { OneWrite }
+    ensures feed { OneFeed }
+    ensures moves { OneMove }
+{}
+
+// Whatever row of calls is made, what has been played is a run.
+#[tactic(auto, using(crate::proofs::Running::plays_run))]
+pub fn plays_run()
+    ensures { PlaysRun }
+{}
