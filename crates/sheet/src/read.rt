@@ -57,7 +57,7 @@ impl Sheet {
         ensures reply { ReadInto (content_of self.old) bytes.now result (content_of self.new) }
         ensures one { OneReply }
         ensures lawful { LawfulExactly }
-    ensures bytes { FilesAreBytes }
+        ensures bytes { FilesAreBytes }
     {
         let tables = read_tables(heap, bytes)?;
         *self = Sheet { tables };

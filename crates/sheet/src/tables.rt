@@ -3,6 +3,7 @@ ghost use Rattle.std.specs.Prelude.{◌≤◌, vec_len};
 
 use entries::Text;
 use protocol::{Property, Strand};
+use std::alloc::AllocError;
 use terms::{NodeTable, VarSet};
 
 #[derive(Drop)]
@@ -21,4 +22,23 @@ pub struct Tables {
 pub struct Shape {
     pub binds: VarSet,
     pub uses: VarSet,
+}
+
+// Tables with the same content.
+impl Clone for Tables {
+    ghost use Rattle.std.specs.Prelude.{◌≡◌};
+    ghost use Rattle.sheet.specs.View.{content};
+
+    ghost is_clone = { λ s t. content t ≡ content s };
+
+    fn clone(&self) -> Result<Tables, AllocError> {
+        Ok(Tables {
+            labels: self.labels.clone()?,
+            names: self.names.clone()?,
+            variables: self.variables.clone()?,
+            nodes: self.nodes.clone()?,
+            strands: self.strands.clone()?,
+            property: self.property,
+        })
+    }
 }

@@ -93,3 +93,15 @@ fn another_file_takes_its_place(rt: HostRuntime) -> Result<(), Fail> {
     t.expect_into(&mut sheet, FIRST, Ok(()))?;
     t.expect_sheet(&sheet, FIRST)
 }
+
+#[test]
+fn a_clone_is_a_sheet_of_its_own(rt: HostRuntime) -> Result<(), Fail> {
+    let t = Tester::new(&rt);
+    let file = rich(t.heap)?;
+    let mut sheet = Sheet::new(t.heap)?;
+    t.expect_into(&mut sheet, file.as_bytes(), Ok(()))?;
+    let clone = sheet.clone()?;
+    t.expect_into(&mut sheet, FIRST, Ok(()))?;
+    t.expect_sheet(&clone, file.as_bytes())?;
+    t.expect_sheet(&sheet, FIRST)
+}
