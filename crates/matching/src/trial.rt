@@ -2,7 +2,6 @@
 ghost use Rattle.std.specs.Prelude.{◌≡◌, ℕ, ◌≤◌, List, length, take};
 ghost use Rattle.unification.specs.Bindings.{Once, FreeValues, Extends};
 ghost use Rattle.matching.specs.Matchings.{nodes_of, bound, Matches, AllMatch, Already};
-ghost use Rattle.matching.specs.Trials.{under, loan, found};
 
 use crate::fault::MatchFault;
 use crate::matching::Matching;
@@ -13,12 +12,16 @@ pub struct Trial<'a> {
     matching: &'a mut Matching,
     // how many bindings there were
     mark: usize,
+    ghost held: { mark ≤ length (bound matching.now) },
 }
 
 impl Drop for Trial<'_> {
+    ghost use Rattle.matching.specs.Trials.{under, found, kept};
+
     // The binding list is cut back to the length that the trial found.
     fn drop(self)
-        ensures bound { bound self.exit.0.now ≡ take (found self.entry) (bound (under self.entry)) }
+        ensures bound { bound self.exit.0.now ≡ kept self.entry }
+        ensures length { length (bound self.exit.0.now) ≡ found self.entry }
         ensures nodes { nodes_of self.exit.0.now ≡ nodes_of (under self.entry) }
     {
         let Trial { matching, mark } = self;
@@ -27,11 +30,14 @@ impl Drop for Trial<'_> {
 }
 
 impl<'a> Trial<'a> {
+    ghost use Rattle.matching.specs.Trials.{under, loan, found, kept};
+
     // A trial of this matching. While it stands, the matching itself cannot be reached.
     pub fn of(m: &'a mut Matching) -> Trial<'a>
         ensures same { loan result ≡ m.entry.ghost_name }
         ensures matching { under result ≡ m.old }
         ensures mark { found result ≡ length (bound m.old) }
+        ensures kept { kept result ≡ bound m.old }
     {
         let mark = m.bindings().len();
         Trial { matching: m, mark }
@@ -39,11 +45,14 @@ impl<'a> Trial<'a> {
 }
 
 impl Trial<'_> {
+    ghost use Rattle.matching.specs.Trials.{under, loan, found, kept};
+
     // As a match of the matching. A call of its own: it says too that the trial keeps what it found, and the loan, as a call
     // on a struct with a `&mut` has to for its lender.
     pub fn matches(&mut self, a: NodeNo, b: NodeNo) -> Result<bool, MatchFault>
         ensures same { loan self.new ≡ loan self.old }
         ensures mark { found self.new ≡ found self.old }
+        ensures kept { kept self.new ≡ kept self.old }
         ensures answer { Matches (nodes_of (under self.old)) (bound (under self.old)) a.0 b.0 result (bound (under self.new)) }
         ensures nodes { nodes_of (under self.new) ≡ nodes_of (under self.old) }
     {
@@ -63,9 +72,8 @@ impl Trial<'_> {
     // Matches these pairs one after another, up to one that cannot be made equal with those before it.
     fn match_each(&mut self, asks: &[Ask]) -> Result<bool, MatchFault>
         ensures same { loan self.new ≡ loan self.old }
-        ensures mark { found self.new ≡ found self.old }
+        ensures kept { kept self.new ≡ kept self.old }
         ensures nodes { nodes_of (under self.new) ≡ nodes_of (under self.old) }
-        ensures front { (k : ℕ) → k ≤ length (bound (under self.old)) → take k (bound (under self.new)) ≡ take k (bound (under self.old)) }
         ensures answer { AllMatch (nodes_of (under self.old)) (bound (under self.old)) asks.now result }
     {
         for w in asks {
