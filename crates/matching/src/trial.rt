@@ -1,7 +1,6 @@
 // A trial of a matching: the matches made while it stands are undone when it ends, whichever way it ends.
 ghost use Rattle.std.specs.Prelude.{◌≡◌, ℕ, ◌≤◌, List, length, take};
-ghost use Rattle.unification.specs.Bindings.{Once, FreeValues, Extends};
-ghost use Rattle.matching.specs.Matchings.{nodes_of, bound, Matches, AllMatch, Already};
+ghost use Rattle.matching.specs.Matchings.{nodes_of, bound, MostGeneral, Matches, AllMatch, Already};
 
 use crate::fault::MatchFault;
 use crate::matching::Matching;
@@ -62,9 +61,7 @@ impl Trial<'_> {
     // The bindings while the trial stands, oldest first. A public call of its own, with all that the matching's says.
     pub fn bindings(&self) -> &[Binding]
         ensures list { result.now ≡ bound (under self.now) }
-        ensures once { Once (bound (under self.now)) }
-        ensures free { FreeValues (nodes_of (under self.now)) (bound (under self.now)) }
-        ensures extends { Extends (nodes_of (under self.now)) (bound (under self.now)) }
+        ensures general { MostGeneral (nodes_of (under self.now)) (bound (under self.now)) }
     {
         self.matching.bindings()
     }
