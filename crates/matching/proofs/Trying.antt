@@ -1,5 +1,5 @@
 -- What a match does to the binding list, and pairs matched one after another.
-use Rattle.std.proofs.Common.{◌≡◌, ℕ, ◌+◌, ◌<◌, ◌≤◌, Bool, true, false, eqb, List, [], ◌∷◌, ◌++◌, length, get_or, take, is_err, Ok, Err, Result, sym, ap, ◌∙◌, subst, ⊎_elim, arith, length-take, take_all, take-take}
+use Rattle.std.proofs.Common.{◌≡◌, ℕ, ◌+◌, ◌<◌, ◌≤◌, Bool, true, false, eqb, List, [], ◌∷◌, ◌++◌, length, get_or, take, is_err, Ok, Err, Result, sym, ap, ◌∙◌, subst, ⊎_elim, arith, length-take, take_all}
 use Rattle.std.proofs.lemmas.Bool.{eqb-true, eq-eqb, true≢false}
 use Rattle.std.proofs.lemmas.List.{take_more}
 use Rattle.terms.specs.Terms.{Term, var}
@@ -18,19 +18,6 @@ use Rattle.unification.proofs.Moves.{each_snoc, each_front, each_last}
 -- a beginning of a list is no longer than it
 shorter : (B B' : List Binding) → take (length B) B' ≡ B → length B ≤ length B'
 shorter B B' e = omega (arith, ap length e, length-take (length B) B')
-
-pub match_longer : (ns : List Node) (B : List Binding) (a b : ℕ) (r : Result Bool MatchFault) (B' : List Binding) → Matches ns B a b r B' → length B ≤ length B'
-match_longer ns B a b (Ok true) B' m = shorter B B' m.3
-match_longer ns B a b (Ok false) B' m = omega (arith, ap length m.3)
-match_longer ns B a b (Err NoSuchNode) B' m = omega (arith, ap length m.1)
-
-front_of : (B B' : List Binding) → take (length B) B' ≡ B → (k : ℕ) → k ≤ length B → take k B' ≡ take k B
-front_of B B' e k h = sym (take-take k (length B) B' h) ∙ ap (take k) e
-
-pub match_front : (ns : List Node) (B : List Binding) (a b : ℕ) (r : Result Bool MatchFault) (B' : List Binding) → Matches ns B a b r B' → (k : ℕ) → k ≤ length B → take k B' ≡ take k B
-match_front ns B a b (Ok true) B' m k h = front_of B B' m.3 k h
-match_front ns B a b (Ok false) B' m k h = ap (take k) m.3
-match_front ns B a b (Err NoSuchNode) B' m k h = ap (take k) m.1
 
 -- the pairs are of nodes of the table, and the instances of B' are those of B that make them equal
 pub record Joint (ns : List Node) (B : List Binding) (ps : List Ask) (B' : List Binding) : Type 0 where

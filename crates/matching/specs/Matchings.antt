@@ -3,7 +3,7 @@ use Rattle.std.specs.Prelude.{◌≡◌, ℕ, ◌+◌, ◌^◌, ◌<◌, ◌≤�
 use Rattle.terms.specs.Tables.{nodes_in}
 use Rattle.terms.specs.declared.node.Node.{Node}
 use Rattle.terms.specs.Terms.{Term}
-use Rattle.unification.specs.Bindings.{val, Instance}
+use Rattle.unification.specs.Bindings.{val, Instance, Once, FreeValues, Extends}
 use Rattle.unification.specs.Classes.{Each, Across, Alike, Solved, Unsolvable}
 use Rattle.unification.specs.Steps.{Room}
 use Rattle.unification.specs.declared.ask.Ask.{Ask}
@@ -21,6 +21,13 @@ nodes_of m = nodes_in m.solver.nodes
 -- its bindings, oldest first
 abbrev pub bound : Matching → List Binding
 bound m = vec_items m.solver.bindings.list
+
+-- the most general bindings given, as far as they are known: no variable is bound twice, none occurs in its own value, and
+-- every assignment of the unbound variables extends to exactly one instance
+pub record MostGeneral (ns : List Node) (B : List Binding) : Type 0 where
+  pub once : Once B
+  pub free : FreeValues ns B
+  pub extends : Extends ns B
 
 -- a match of a and b: the answer, and the bindings B' after it where they were B before
 abbrev pub Matches : List Node → List Binding → ℕ → ℕ → Result Bool MatchFault → List Binding → Type 0

@@ -2,8 +2,7 @@
 ghost use Rattle.std.specs.Prelude.{◌≡◌, ℕ, ◌≤◌, [], length, take, IfOk};
 ghost use Rattle.terms.specs.Tables.{nodes_in};
 ghost use Rattle.sheet.specs.Sheets.{content_of};
-ghost use Rattle.unification.specs.Bindings.{Once, FreeValues, Extends};
-ghost use Rattle.matching.specs.Matchings.{nodes_of, bound, Matches, Opened};
+ghost use Rattle.matching.specs.Matchings.{nodes_of, bound, MostGeneral, Matches, Opened};
 
 use crate::bindings::Bindings;
 use crate::classes::Classes;
@@ -60,9 +59,7 @@ impl Matching {
     // The bindings, oldest first.
     pub fn bindings(&self) -> &[Binding]
         ensures list { result.now ≡ bound self.now }
-        ensures once { Once (bound self.now) }
-        ensures free { FreeValues (nodes_of self.now) (bound self.now) }
-        ensures extends { Extends (nodes_of self.now) (bound self.now) }
+        ensures general { MostGeneral (nodes_of self.now) (bound self.now) }
     {
         self.solver.bindings.as_slice()
     }

@@ -1,8 +1,6 @@
 // A trial of a matching: the matches made while it stands are undone when it ends, whichever way it ends.
 ghost use Rattle.std.specs.Prelude.{◌≡◌, ℕ, ◌≤◌, List, length, take};
-ghost use Rattle.unification.specs.Bindings.{Once, FreeValues, Extends};
-ghost use Rattle.matching.specs.Matchings.{nodes_of, bound, Matches, AllMatch, Already};
-ghost use Rattle.matching.specs.Trials.{found};
+ghost use Rattle.matching.specs.Matchings.{nodes_of, bound, MostGeneral, Matches, AllMatch, Already};
 
 use crate::fault::MatchFault;
 use crate::matching::Matching;
@@ -10,18 +8,20 @@ use terms::NodeNo;
 use unification::{Ask, Binding};
 
 pub struct Trial<'a> {
-    // the matching as it is now; a trial inside this one is a trial of it. The field is public, since a caller of a method
-    // that lent it out would not know the matching afterwards; and an invariant of it would bind whoever writes it
-    pub matching: &'a mut Matching,
+    matching: &'a mut Matching,
     // how many bindings there were
     mark: usize,
+    ghost held: { mark ≤ length (bound matching.now) },
 }
 
 impl Drop for Trial<'_> {
+    ghost use Rattle.matching.specs.Trials.{under, found, kept};
+
     // The binding list is cut back to the length that the trial found.
     fn drop(self)
-        ensures bound { bound self.exit.0.now ≡ take (found self.entry) (bound self.entry.matching.now) }
-        ensures nodes { nodes_of self.exit.0.now ≡ nodes_of self.entry.matching.now }
+        ensures bound { bound self.exit.0.now ≡ kept self.entry }
+        ensures length { length (bound self.exit.0.now) ≡ found self.entry }
+        ensures nodes { nodes_of self.exit.0.now ≡ nodes_of (under self.entry) }
     {
         let Trial { matching, mark } = self;
         matching.cut(mark);
@@ -29,11 +29,14 @@ impl Drop for Trial<'_> {
 }
 
 impl<'a> Trial<'a> {
+    ghost use Rattle.matching.specs.Trials.{under, loan, found, kept};
+
     // A trial of this matching. While it stands, the matching itself cannot be reached.
     pub fn of(m: &'a mut Matching) -> Trial<'a>
-        ensures same { result.matching.ghost_name ≡ m.entry.ghost_name }
-        ensures matching { result.matching.now ≡ m.old }
+        ensures same { loan result ≡ m.entry.ghost_name }
+        ensures matching { under result ≡ m.old }
         ensures mark { found result ≡ length (bound m.old) }
+        ensures kept { kept result ≡ bound m.old }
     {
         let mark = m.bindings().len();
         Trial { matching: m, mark }
@@ -41,34 +44,34 @@ impl<'a> Trial<'a> {
 }
 
 impl Trial<'_> {
+    ghost use Rattle.matching.specs.Trials.{under, loan, found, kept};
+
     // As a match of the matching. A call of its own: it says too that the trial keeps what it found, and the loan, as a call
     // on a struct with a `&mut` has to for its lender.
     pub fn matches(&mut self, a: NodeNo, b: NodeNo) -> Result<bool, MatchFault>
-        ensures same { self.new.matching.ghost_name ≡ self.old.matching.ghost_name }
+        ensures same { loan self.new ≡ loan self.old }
         ensures mark { found self.new ≡ found self.old }
-        ensures answer { Matches (nodes_of self.old.matching.now) (bound self.old.matching.now) a.0 b.0 result (bound self.new.matching.now) }
-        ensures nodes { nodes_of self.new.matching.now ≡ nodes_of self.old.matching.now }
+        ensures kept { kept self.new ≡ kept self.old }
+        ensures answer { Matches (nodes_of (under self.old)) (bound (under self.old)) a.0 b.0 result (bound (under self.new)) }
+        ensures nodes { nodes_of (under self.new) ≡ nodes_of (under self.old) }
     {
         self.matching.matches(a, b)
     }
 
     // The bindings while the trial stands, oldest first. A public call of its own, with all that the matching's says.
     pub fn bindings(&self) -> &[Binding]
-        ensures list { result.now ≡ bound self.now.matching.now }
-        ensures once { Once (bound self.now.matching.now) }
-        ensures free { FreeValues (nodes_of self.now.matching.now) (bound self.now.matching.now) }
-        ensures extends { Extends (nodes_of self.now.matching.now) (bound self.now.matching.now) }
+        ensures list { result.now ≡ bound (under self.now) }
+        ensures general { MostGeneral (nodes_of (under self.now)) (bound (under self.now)) }
     {
         self.matching.bindings()
     }
 
     // Matches these pairs one after another, up to one that cannot be made equal with those before it.
     fn match_each(&mut self, asks: &[Ask]) -> Result<bool, MatchFault>
-        ensures same { self.new.matching.ghost_name ≡ self.old.matching.ghost_name }
-        ensures mark { found self.new ≡ found self.old }
-        ensures nodes { nodes_of self.new.matching.now ≡ nodes_of self.old.matching.now }
-        ensures front { (k : ℕ) → k ≤ length (bound self.old.matching.now) → take k (bound self.new.matching.now) ≡ take k (bound self.old.matching.now) }
-        ensures answer { AllMatch (nodes_of self.old.matching.now) (bound self.old.matching.now) asks.now result }
+        ensures same { loan self.new ≡ loan self.old }
+        ensures kept { kept self.new ≡ kept self.old }
+        ensures nodes { nodes_of (under self.new) ≡ nodes_of (under self.old) }
+        ensures answer { AllMatch (nodes_of (under self.old)) (bound (under self.old)) asks.now result }
     {
         for w in asks {
             if !self.matches(w.left, w.right)? {

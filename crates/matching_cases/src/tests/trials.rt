@@ -35,21 +35,25 @@ fn undone_at_the_end(rt: HostRuntime) -> Result<(), Fail> {
 }
 
 #[test]
-fn inside_another(rt: HostRuntime) -> Result<(), Fail> {
+fn one_after_another(rt: HostRuntime) -> Result<(), Fail> {
     let mut m = start(&rt)?;
-    {
+    // twice the same: what the first bound is bound no more
+    for _ in 0..2u8 {
         let mut t = Trial::of(&mut m);
         assert_eq!(rt; t.matches(NodeNo(2), NodeNo(0))?, true);
-        {
-            let mut u = Trial::of(&mut *t.matching);
-            assert_eq!(rt; u.matches(NodeNo(3), NodeNo(1))?, true);
-            assert_eq!(rt; u.bindings().len(), 2);
-        }
         assert_eq!(rt; t.bindings().len(), 1);
-        assert_eq!(rt; t.matches(NodeNo(3), NodeNo(0))?, true);
+        assert_eq!(rt; t.matches(NodeNo(3), NodeNo(1))?, true);
+        assert_eq!(rt; t.bindings().len(), 2);
     }
     assert_eq!(rt; m.bindings().len(), 0);
-    Ok(())
+    // a match between them stays, and y is free for k
+    rows(&rt, &mut m, &[Row(2, 0, true, 1)])?;
+    {
+        let mut u = Trial::of(&mut m);
+        assert_eq!(rt; u.matches(NodeNo(3), NodeNo(1))?, true);
+        assert_eq!(rt; u.bindings().len(), 2);
+    }
+    rows(&rt, &mut m, &[Row(3, 0, true, 2)])
 }
 
 // Returns in the middle of a trial: at a refusal by the question mark, at a no by return.

@@ -1,18 +1,11 @@
-use Rattle.std.proofs.Common.{◌≡◌, ℕ, ◌≤◌, Bool, true, false, eqb, List, length, take, Ok, Result, sym, ap, ◌∙◌, subst, arith, rules}
-use lib.Seq.{take-length}
+use Rattle.std.proofs.Common.{◌≡◌, ℕ, Bool, true, false, eqb, List, length, Ok, Result, sym, ap, ◌∙◌, subst, rules}
 use Rattle.terms.specs.declared.node.Node.{Node}
 use Rattle.unification.specs.Bindings.{Good}
 use Rattle.matching.specs.declared.matching.Matching.{Matching}
 use Rattle.matching.specs.declared.fault.MatchFault.{MatchFault}
 use Rattle.matching.specs.Matchings.{nodes_of, bound, Matches, Already}
-use Rattle.matching.proofs.Trying.{match_front, already_apart, already_counted}
+use Rattle.matching.proofs.Trying.{already_apart, already_counted}
 use Rattle.matching.proofs.trial.already_equal.Goals as goal
-
--- what the trial goes back to
-back : (m t z : Matching) (k n : ℕ) → t ≡ m → k ≡ n → n ≡ length (bound m) → ((j : ℕ) → j ≤ length (bound t) → take j (bound z) ≡ take j (bound t)) → take k (bound z) ≡ bound m
-back m t z k n e p q front =
-    let l : k ≤ length (bound t) = omega (arith, p, q, ap (λ (x : Matching). length (bound x)) e) in
-    front k l ∙ ap (λ (x : Matching). take k (bound x)) e ∙ ap (λ (j : ℕ). take j (bound m)) (p ∙ q) ∙ take-length (bound m)
 
 -- a match of the trial is a match of what it is a trial of
 from : (m t : Matching) (a b : ℕ) (r : Result Bool MatchFault) (z : Matching) → t ≡ m → Matches (nodes_of t) (bound t) a b r (bound z) → Matches (nodes_of m) (bound m) a b r (bound z)
@@ -25,7 +18,6 @@ returns-then-not-branch c =
     let z = c.matches.new.self.matching.now in
     let e = c.in_ok-matches.ensures in
     let h = subst (λ (v : Bool). Matches (nodes_of t) (bound t) c.args.a.0 c.args.b.0 (Ok v) (bound z)) c.if-not-branch.true e.answer in
-    let kept : take c.matches.new.self.mark (bound z) ≡ bound m = back m t z c.matches.new.self.mark c.of-trial.result.mark c.of-trial.ensures.matching e.mark c.of-trial.ensures.mark (match_front (nodes_of t) (bound t) c.args.a.0 c.args.b.0 (Ok c.in_ok-matches.field-0) (bound z) e.answer) in
     let table : nodes_of z ≡ nodes_of m = e.nodes ∙ ap nodes_of c.of-trial.ensures.matching in
     record {
       answer = already_apart (nodes_of m) (bound m) (bound z) c.args.a.0 c.args.b.0 m.solver.good (from m t c.args.a.0 c.args.b.0 (Ok false) z c.of-trial.ensures.matching h);
@@ -40,7 +32,6 @@ returns c =
     let z = c.matches.new.self.matching.now in
     let e = c.in_ok-matches.ensures in
     let h = subst (λ (v : Bool). Matches (nodes_of t) (bound t) c.args.a.0 c.args.b.0 (Ok v) (bound z)) c.if-not-branch.false e.answer in
-    let kept : take c.matches.new.self.mark (bound z) ≡ bound m = back m t z c.matches.new.self.mark c.of-trial.result.mark c.of-trial.ensures.matching e.mark c.of-trial.ensures.mark (match_front (nodes_of t) (bound t) c.args.a.0 c.args.b.0 (Ok c.in_ok-matches.field-0) (bound z) e.answer) in
     let table : nodes_of z ≡ nodes_of m = e.nodes ∙ ap nodes_of c.of-trial.ensures.matching in
     let good : ∥ Good (nodes_of m) (bound z) ∥₁ = subst (λ (ns : List Node). ∥ Good ns (bound z) ∥₁) table z.solver.good in
     let a = already_counted (nodes_of m) (bound m) (bound z) c.args.a.0 c.args.b.0 m.solver.good good (from m t c.args.a.0 c.args.b.0 (Ok true) z c.of-trial.ensures.matching h) in

@@ -6,4 +6,4 @@ use Rattle.matching.proofs.matching.Matching.bindings.Goals as goal
 pub returns : goal.returns
 returns c =
     let m = c.args.self.now in
-    record { list = c.as_slice.ensures; once = good_once (nodes_of m) (bound m) m.solver.good; free = never_inside (nodes_of m) (bound m) m.solver.good; extends = exactly_one (nodes_of m) (bound m) m.solver.good }
+    record { list = c.as_slice.ensures; general = record { once = good_once (nodes_of m) (bound m) m.solver.good; free = never_inside (nodes_of m) (bound m) m.solver.good; extends = exactly_one (nodes_of m) (bound m) m.solver.good } }

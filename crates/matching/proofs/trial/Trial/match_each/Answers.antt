@@ -1,9 +1,9 @@
-use Rattle.std.proofs.Common.{◌≡◌, ℕ, Bool, true, false, List, get_or, Ok, Err, ◌∙◌, subst, arith, take_all}
+use Rattle.std.proofs.Common.{◌≡◌, ℕ, Bool, true, false, List, get_or, Ok, Err, ◌∙◌, subst, take_all}
 use Rattle.terms.specs.declared.node.Node.{Node}
 use Rattle.unification.specs.Bindings.{Good}
 use Rattle.unification.specs.declared.ask.Ask.{Ask}
 use Rattle.matching.specs.Matchings.{nodes_of, bound, Matches}
-use Rattle.matching.proofs.Trying.{match_longer, match_front, no_ask, one_more, when_refused, joint_on, joint_stops, joint_refused, joint_ends}
+use Rattle.matching.proofs.Trying.{no_ask, one_more, when_refused, joint_on, joint_stops, joint_refused, joint_ends}
 use Rattle.matching.proofs.trial.Trial.match_each.Goals as goal
 
 pub loop-w-preserved : goal.loop-w-preserved
@@ -17,16 +17,12 @@ loop-w-preserved c =
     let here = one_more ps k c.loop-w-test.true in
     let nodes : nodes_of n ≡ nodes_of m = c.loop-w.invariant.2 in
     let e = c.in_ok-matches.ensures in
-    let longer = match_longer (nodes_of n) (bound n) w.left.0 w.right.0 (Ok c.in_ok-matches.field-0) (bound z) e.answer in
-    let front = match_front (nodes_of n) (bound n) w.left.0 w.right.0 (Ok c.in_ok-matches.field-0) (bound z) e.answer in
     let yes-now = subst (λ (v : Bool). Matches (nodes_of n) (bound n) w.left.0 w.right.0 (Ok v) (bound z)) c.if-not-branch.false e.answer in
     let h = subst (λ (t : List Node). Matches t (bound n) w.left.0 w.right.0 (Ok true) (bound z)) nodes yes-now in (
       e.same ∙ c.loop-w.invariant.0,
-      e.mark ∙ c.loop-w.invariant.1,
+      e.kept ∙ c.loop-w.invariant.1,
       e.nodes ∙ nodes,
-      omega (arith, longer, c.loop-w.invariant.3),
-      λ i l. front i (omega (arith, c.loop-w.invariant.3)) ∙ c.loop-w.invariant.4 i l,
-      joint_on (nodes_of m) (bound m) ps k w here (bound n) (bound z) c.loop-w.invariant.5 h,
+      joint_on (nodes_of m) (bound m) ps k w here (bound n) (bound z) c.loop-w.invariant.3 h,
     )
 
 pub returns-in_err-matches : goal.returns-in_err-matches
@@ -40,15 +36,13 @@ returns-in_err-matches c =
     let here = one_more ps k c.loop-w-test.true in
     let nodes : nodes_of n ≡ nodes_of m = c.loop-w.invariant.2 in
     let e = c.in_err-matches.ensures in
-    let front = match_front (nodes_of n) (bound n) w.left.0 w.right.0 (Err c.in_err-matches.field-0.0) (bound z) e.answer in
     let h = subst (λ (t : List Node). Matches t (bound n) w.left.0 w.right.0 (Err c.in_err-matches.field-0.0) (bound z)) nodes e.answer in
     let g : ∥ Good (nodes_of m) (bound n) ∥₁ = subst (λ (t : List Node). ∥ Good t (bound n) ∥₁) nodes n.solver.good in
     record {
       same = e.same ∙ c.loop-w.invariant.0;
-      mark = e.mark ∙ c.loop-w.invariant.1;
+      kept = e.kept ∙ c.loop-w.invariant.1;
       nodes = e.nodes ∙ nodes;
-      front = λ i l. front i (omega (arith, c.loop-w.invariant.3)) ∙ c.loop-w.invariant.4 i l;
-      answer = when_refused (nodes_of m) (bound m) ps c.from_residual.result c.from_residual.ensures.0 (joint_refused (nodes_of m) (bound m) ps k w here c.in_err-matches.field-0.0 (bound n) (bound z) c.loop-w-test.true g c.loop-w.invariant.5 h);
+      answer = when_refused (nodes_of m) (bound m) ps c.from_residual.result c.from_residual.ensures.0 (joint_refused (nodes_of m) (bound m) ps k w here c.in_err-matches.field-0.0 (bound n) (bound z) c.loop-w-test.true g c.loop-w.invariant.3 h);
     }
 
 pub returns-then-not-branch : goal.returns-then-not-branch
@@ -62,15 +56,13 @@ returns-then-not-branch c =
     let here = one_more ps k c.loop-w-test.true in
     let nodes : nodes_of n ≡ nodes_of m = c.loop-w.invariant.2 in
     let e = c.in_ok-matches.ensures in
-    let front = match_front (nodes_of n) (bound n) w.left.0 w.right.0 (Ok c.in_ok-matches.field-0) (bound z) e.answer in
     let no-now = subst (λ (v : Bool). Matches (nodes_of n) (bound n) w.left.0 w.right.0 (Ok v) (bound z)) c.if-not-branch.true e.answer in
     let h = subst (λ (t : List Node). Matches t (bound n) w.left.0 w.right.0 (Ok false) (bound z)) nodes no-now in
     record {
       same = e.same ∙ c.loop-w.invariant.0;
-      mark = e.mark ∙ c.loop-w.invariant.1;
+      kept = e.kept ∙ c.loop-w.invariant.1;
       nodes = e.nodes ∙ nodes;
-      front = λ i l. front i (omega (arith, c.loop-w.invariant.3)) ∙ c.loop-w.invariant.4 i l;
-      answer = joint_stops (nodes_of m) (bound m) ps k w here (bound n) (bound z) c.loop-w-test.true c.loop-w.invariant.5 h;
+      answer = joint_stops (nodes_of m) (bound m) ps k w here (bound n) (bound z) c.loop-w-test.true c.loop-w.invariant.3 h;
     }
 
 pub returns : goal.returns
@@ -80,8 +72,7 @@ returns c =
     let g : ∥ Good (nodes_of m) (bound n) ∥₁ = subst (λ (t : List Node). ∥ Good t (bound n) ∥₁) c.loop-w.invariant.2 n.solver.good in
     record {
       same = c.loop-w.invariant.0;
-      mark = c.loop-w.invariant.1;
+      kept = c.loop-w.invariant.1;
       nodes = c.loop-w.invariant.2;
-      front = c.loop-w.invariant.4;
-      answer = joint_ends (nodes_of m) (bound m) c.args.asks.now c.loop-w.w-index (bound n) (take_all c.loop-w.w-index c.args.asks.now c.loop-w-test.false) g c.loop-w.invariant.5;
+      answer = joint_ends (nodes_of m) (bound m) c.args.asks.now c.loop-w.w-index (bound n) (take_all c.loop-w.w-index c.args.asks.now c.loop-w-test.false) g c.loop-w.invariant.3;
     }
