@@ -1,2 +1,3 @@
 pub mod Once
 pub mod Running
+pub mod Judging

@@ -3,6 +3,7 @@
 #![tactic(auto)]
 
 ghost use Rattle.playing.specs.Laws.{OneWrite, OneFeed, OneMove, PlaysRun};
+ghost use Rattle.playing.specs.Judging.{FitFinds, FitAdds, FitTells, JudgedByFitting, VerdictDecided};
 
 mod calls;
 mod faults;
@@ -22,4 +23,13 @@ pub fn answers_are_one()
 #[tactic(auto, using(crate::proofs::Running::plays_run))]
 pub fn plays_run()
     ensures { PlaysRun }
+{}
+
+// An open term is fitted to another in one way or in none, and so it is decided whether a run of closed messages is broken.
+pub fn runs_are_judged()
+    ensures finds { FitFinds }
+    ensures adds { FitAdds }
+    ensures tells { FitTells }
+    ensures judged { JudgedByFitting }
+    ensures decided { VerdictDecided }
 {}
