@@ -4,14 +4,16 @@ use mathlib.Core.Option.{some-injective}
 use Rattle.std.proofs.lemmas.List.{get_or_past}
 use Rattle.terms.specs.Terms.{Term, pair, seal}
 use Rattle.terms.specs.Nodes.{at}
+use Rattle.terms.specs.declared.number.NodeNo.{NodeNo}
 use Rattle.protocol.specs.Strands.{TermStep, input, output, opens, splits, same, At, first, second}
 use Rattle.runs.specs.Protocols.{TermAction, Protocol, strand}
 use Rattle.runs.specs.Runs.{State, Values, Means, a_name, an_env, a_value, a_pair, a_seal, bind, sent, Does, fed, put_out, opened, halved, agreed, messages, Moves, moved}
 use Rattle.runs.proofs.Apartness.{place_below}
 use Rattle.runs.proofs.Bridging.{at_unique}
+use Rattle.playing.specs.declared.faults.WriteFault.TheVariants as w
 use Rattle.playing.specs.declared.faults.StepFault.TheVariants as s
 use Rattle.playing.specs.Calls.{Situation, IsInput, Next, NoSuchStrand, Done, feeding}
-use Rattle.playing.specs.Laws.{OneFeed, OneMove}
+use Rattle.playing.specs.Laws.{OneWrite, OneFeed, OneMove}
 
 -- a term has one value
 pub means_one : {v : Values} {t M N : Term} → Means v t M → Means v t N → M ≡ N
@@ -69,6 +71,18 @@ moves_one S st k p at n (moved {p = q} {v = v} {more = r} c d) (moved {p = o} {v
     let h : o ≡ p = at_unique S k (st.next k) k (st.next k) p o at e refl refl in
     let x = does_one n (subst (λ (z : TermStep). Does st.value (messages st.run) z v r) g d) (subst (λ (z : TermStep). Does st.value (messages st.run) z w m) h f) in
     rw (x.0, x.1)
+
+-- what is written is answered in one way
+pub one_write : OneWrite
+one_write names u n (Ok p) (Ok q) v t x y = (ap Ok (ap {A = ℕ} {B = NodeNo} (λ k. record { 0 = k }) (x.2 ∙ sym y.2)), x.3 ∙ sym y.3)
+one_write names u n (Ok p) (Err w.Unlawful) v t x y = absurd (y.0 x.0)
+one_write names u n (Ok p) (Err w.Full) v t x y = absurd (omega (arith, x.1, y.1))
+one_write names u n (Err w.Unlawful) (Ok q) v t x y = absurd (x.0 y.0)
+one_write names u n (Err w.Unlawful) (Err w.Unlawful) v t x y = (refl, x.1 ∙ sym y.1)
+one_write names u n (Err w.Unlawful) (Err w.Full) v t x y = absurd (x.0 y.0)
+one_write names u n (Err w.Full) (Ok q) v t x y = absurd (omega (arith, y.1, x.1))
+one_write names u n (Err w.Full) (Err w.Unlawful) v t x y = absurd (y.0 x.0)
+one_write names u n (Err w.Full) (Err w.Full) v t x y = (refl, x.2 ∙ sym y.2)
 
 -- what is fed is answered in one way
 pub one_feed : OneFeed

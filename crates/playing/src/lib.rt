@@ -12,7 +12,7 @@ pub use calls::Call;
 pub use faults::{StepFault, WriteFault};
 
 // Each call has one answer, and leaves one situation.
-#[tactic(auto, using(crate::proofs::Once::one_feed, crate::proofs::Once::one_move))]
+#[tactic(auto, using(crate::proofs::Once::one_write, crate::proofs::Once::one_feed, crate::proofs::Once::one_move))]
 pub fn answers_are_one()
     ensures write { OneWrite }
     ensures feed { OneFeed }
