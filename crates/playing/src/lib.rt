@@ -1,5 +1,5 @@
 // The rules of a bench over terms: what each of its calls answers, and what is then the case. Whatever plays by them, with
-// whatever notebook, answers alike, and its run is a run of the sheet.
+// whatever notebook, answers alike, its run is a run of the sheet, and how it is judged is decided.
 #![tactic(auto)]
 
 ghost use Rattle.playing.specs.Laws.{OneWrite, OneFeed, OneMove, PlaysRun};
