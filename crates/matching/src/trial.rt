@@ -1,5 +1,5 @@
 // A trial of a matching: the matches made while it stands are undone when it ends, whichever way it ends.
-ghost use Rattle.std.specs.Prelude.{◌≡◌, ℕ, ◌≤◌, List, length, take};
+ghost use Rattle.std.specs.Prelude.{◌≡◌, ◌≤◌, length};
 ghost use Rattle.matching.specs.Matchings.{nodes_of, bound, MostGeneral, Matches, AllMatch, Already};
 
 use crate::fault::MatchFault;
