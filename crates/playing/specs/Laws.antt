@@ -2,8 +2,9 @@
 use Rattle.std.specs.Prelude.{◌≡◌, ℕ, List, Result}
 use Rattle.terms.specs.declared.node.Node.{Node}
 use Rattle.terms.specs.declared.number.NodeNo.{NodeNo}
-use Rattle.runs.specs.Protocols.{Protocol}
-use Rattle.runs.specs.Runs.{Runs}
+use Rattle.runs.specs.Protocols.{Protocol, LawfulProtocol}
+use Rattle.runs.specs.Runs.{Runs, Broken}
+use Rattle.runs.specs.Schedules.{holds, Answers}
 use Rattle.playing.specs.declared.calls.Call.{Call}
 use Rattle.playing.specs.declared.faults.WriteFault.{WriteFault}
 use Rattle.playing.specs.declared.faults.StepFault.{StepFault}
@@ -17,6 +18,10 @@ OneFeed = (S : Protocol) (u : Situation) (k q : ℕ) (r o : Result (Unit {0}) St
 
 abbrev pub OneMove : Type 0
 OneMove = (S : Protocol) (u : Situation) (k : ℕ) (r o : Result (Unit {0}) StepFault) (v t : Situation) → Moved S u k r v → Moved S u k o t → (r ≡ o) × (v ≡ t)
+
+-- where the search answers holds at some budget, whatever row of calls is made leaves a run that is kept
+abbrev pub KeptPlay : Type 0
+KeptPlay = (names : ℕ) (S : Protocol) → LawfulProtocol S → (budget c : ℕ) → Answers S budget (holds c) → (cs : List Call) (v : Situation) → Plays names S cs opened v → ¬ Broken S v.state.run
 
 -- from an open bench, any row of calls leads to a run of some schedule
 abbrev pub PlaysRun : Type 0

@@ -2,7 +2,7 @@
 // whatever notebook, answers alike, its run is a run of the sheet, and how it is judged is decided.
 #![tactic(auto)]
 
-ghost use Rattle.playing.specs.Laws.{OneWrite, OneFeed, OneMove, PlaysRun};
+ghost use Rattle.playing.specs.Laws.{OneWrite, OneFeed, OneMove, PlaysRun, KeptPlay};
 ghost use Rattle.playing.specs.Judging.{FitFinds, FitAdds, FitTells, JudgedByFitting, VerdictDecided};
 
 mod calls;
@@ -19,10 +19,10 @@ pub fn answers_are_one()
     ensures moves { OneMove }
 {}
 
-// Whatever row of calls is made, what has been played is a run.
-#[tactic(auto, using(crate::proofs::Running::plays_run))]
+// Whatever row of calls is made, what has been played is a run; and it is kept, where the search of the sheet answers holds.
 pub fn plays_run()
-    ensures { PlaysRun }
+    ensures run { PlaysRun }
+    ensures kept { KeptPlay }
 {}
 
 // An open term is fitted to another in one way or in none, and so it is decided whether a run of closed messages is broken.

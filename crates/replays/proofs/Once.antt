@@ -76,7 +76,7 @@ made_one : (names : ℕ) (S : Protocol) (l : Line) (u v w : Situation) → Made 
 made_one names S (node k a b) u v w x y = (written_one names u k a b (Ok x.0) (Ok y.0) v w x.1 y.1).1
 made_one names S (step s q) u v w x y = (stepped_one S u s q (Ok tt) (Ok tt) v w x y).1
 
-abbrev IsOk : {T E : Type 0} → Result T E → Type 0
+abbrev pub IsOk : {T E : Type 0} → Result T E → Type 0
 IsOk (Ok t) = Unit {0}
 IsOk (Err e) = ⊥
 

@@ -1,4 +1,5 @@
 pub mod Faults
 pub mod Lines
+pub mod Decoding
 pub mod Replaying
 pub mod Laws
