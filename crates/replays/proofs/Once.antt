@@ -38,7 +38,7 @@ line_back : (l : Line) → line_of (rec l) ≡ l
 line_back (node k a b) = cc (word_back k, word_back a, word_back b)
 line_back (step s q) = cc (word_back s, word_back q)
 
-line_one : (l m : Line) → rec l ≡ rec m → l ≡ m
+pub line_one : (l m : Line) → rec l ≡ rec m → l ≡ m
 line_one l m e = told rec line_of line_back l m e
 
 -- what stands at the front of bytes

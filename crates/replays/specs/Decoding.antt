@@ -1,5 +1,5 @@
 -- What a record of a run file says.
-use Rattle.std.specs.Prelude.{◌≡◌, ℕ, Ok, Err, Result}
+use Rattle.std.specs.Prelude.{◌≡◌, Ok, Err, Result}
 use Rattle.records.specs.Bytes.{Rec}
 use Rattle.replays.specs.Lines as lines
 use Rattle.replays.specs.Lines.{rec}

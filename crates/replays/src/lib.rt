@@ -1,4 +1,4 @@
-// The rules of run files and of replay: what a file is answered, whatever notebook is asked on the way.
+// Run files: what a replay answers to one, whatever notebook is asked on the way, and the reader of them.
 #![tactic(auto)]
 
 ghost use Rattle.replays.specs.Laws.{OneReplay, ReplayRuns, BreakShown, KeptReplay};
@@ -7,10 +7,12 @@ mod decode;
 mod faults;
 mod line;
 mod numbers;
+mod reader;
 
 pub use faults::{BenchFault, ReplayFault, RunFault, Verdict};
 pub use line::{Line, NoLine};
 pub use numbers::Layer;
+pub use reader::RunReader;
 
 // A run file has one answer.
 #[tactic(auto, using(crate::proofs::Once::one_replay))]
