@@ -93,7 +93,8 @@ impl<R: Abort> Tester<'_, R> {
         Ok(())
     }
 
-    // The file is taken, and the queries of the sheet then say what it says: as the two above, but a failure names the file.
+    // The file is taken, and the queries of the sheet then say what it says: as `expect` and
+    // `expect_sheet`, but a failure names the file.
     pub fn expect_whole(&self, file: &SheetFile, i: usize) -> Result<(), Fail> {
         let mut sheet = Sheet::new(self.heap)?;
         let reply = reply_of(sheet.read(self.heap, file.as_bytes()))?;

@@ -13,6 +13,9 @@ use Rattle.unification.proofs.Stepping.{step_same, step_clash, step_left, step_r
 use Rattle.matching.proofs.solver.Solver.step.Goals as goal
 use Rattle.matching.proofs.solver.Solver.step.Goals.{After-compare}
 
+-- Each answer below leads to a lemma of its own, with the same two ends before its own facts: one lemma for all six ways would
+-- have to state each of them.
+
 -- what the two ends say, of the nodes themselves
 tells : (c : After-compare) (r : Compared) → Tells (node c.as_slice-table.result.now c.walk-c.result.0) (node c.as_slice-table.result.now c.walk-d.result.0) r → Tells (node (vec_items c.args.self.now.nodes.nodes) c.walk-c.result.0) (node (vec_items c.args.self.now.nodes.nodes) c.walk-d.result.0) r
 tells c r = subst (λ (t : List Node). Tells (node t c.walk-c.result.0) (node t c.walk-d.result.0) r) c.as_slice-table.ensures
