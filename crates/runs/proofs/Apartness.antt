@@ -73,18 +73,20 @@ plan_has {S} (then {next} {k = j} {p = q} {s = s} at pl) k i p h l a =
       ]
     ]
 
-plan_room : {S : Protocol} {next : ℕ → ℕ} {s : List ℕ} {ps : List TermStep} → Plan S next s ps → ((k : ℕ) → next k ≤ length (strand S k)) → (k : ℕ) → next k + mentions k s ≤ length (strand S k)
-plan_room done r k = let h = r k in omega arith
-plan_room {S} (then {next} {k = j} {p = q} {s = s} at pl) r k = rw (← onward_mentions next j k s) (plan_room pl (λ i. room i) k)
-  where
-    room : (i : ℕ) → onward next j i ≤ length (strand S i)
-    room i = elim (dec_le (onward next j i) (next i)) [
-      | yes h ↦ let g = r i in omega arith
-      | no h ↦ elim (onward_cases next j i (next i) (omega arith)) [
+-- no strand goes past its end
+pub onward_below : (S : Protocol) (next : ℕ → ℕ) (j : ℕ) (p : TermStep) → At S.strands j (next j) p → ((k : ℕ) → next k ≤ length (strand S k)) → (k : ℕ) → onward next j k ≤ length (strand S k)
+onward_below S next j p at r k =
+    elim (dec_le (onward next j k) (next k)) [
+      | yes h ↦ let g = r k in omega arith
+      | no h ↦ elim (onward_cases next j k (next k) (omega arith)) [
         | inl z ↦ absurd (omega arith)
-        | inr z ↦ subst (λ (c : ℕ). onward next j c ≤ length (strand S c)) (sym z.0) (rw (onward_here next j) (place_below (strand S j) (next j) q at))
+        | inr z ↦ subst (λ (c : ℕ). onward next j c ≤ length (strand S c)) (sym z.0) (rw (onward_here next j) (place_below (strand S j) (next j) p at))
       ]
     ]
+
+plan_room : {S : Protocol} {next : ℕ → ℕ} {s : List ℕ} {ps : List TermStep} → Plan S next s ps → ((k : ℕ) → next k ≤ length (strand S k)) → (k : ℕ) → next k + mentions k s ≤ length (strand S k)
+plan_room done r k = let h = r k in omega arith
+plan_room {S} (then {next} {k = j} {p} {s = s} at pl) r k = rw (← onward_mentions next j k s) (plan_room pl (onward_below S next j p at r) k)
 
 plan_made : (S : Protocol) (next : ℕ → ℕ) (s : List ℕ) → ((k : ℕ) → next k + mentions k s ≤ length (strand S k)) → (ps : List TermStep) × Plan S next s ps
 plan_made S next [] h = ([], done)

@@ -39,7 +39,7 @@ breaking_feasible S law s (st, g, b) =
     let r = run_solves S law s st g in
     (r.1.steps, r.1.plan, r.0, r.1.closed, r.1.hold)
 
-does_adds : {v : Values} {K : List Term} {p : TermStep} {w : Values} {r : List TermAction} → Does v K p w r → (r ≡ []) ⊎ ((a : TermAction) × (r ≡ a ∷ []))
+pub does_adds : {v : Values} {K : List Term} {p : TermStep} {w : Values} {r : List TermAction} → Does v K p w r → (r ≡ []) ⊎ ((a : TermAction) × (r ≡ a ∷ []))
 does_adds (fed {l} M c m d) = inr (received l M, refl)
 does_adds (put_out {l} {n} {M} e m) = inr (sent l M, refl)
 does_adds (opened e f) = inl refl

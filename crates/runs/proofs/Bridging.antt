@@ -31,7 +31,7 @@ filled_on S next v w K r k p at d f j i q x h a b =
       | inr e ↦ does_binds x d (subst (λ (z : TermStep). Binds x z) (at_unique S k (next k) j i p q at a e.0 (e.1 ∙ ap next e.0)) b)
     ]
 
-owned_on : (S : Protocol) (next : ℕ → ℕ) (v w : Values) (K : List Term) (r : List TermAction) (k : ℕ) (p : TermStep) → At S.strands k (next k) p → Does v K p w r → Owned S next v → Owned S (onward next k) w
+pub owned_on : (S : Protocol) (next : ℕ → ℕ) (v w : Values) (K : List Term) (r : List TermAction) (k : ℕ) (p : TermStep) → At S.strands k (next k) p → Does v K p w r → Owned S next v → Owned S (onward next k) w
 owned_on S next v w K r k p at d f x (M, e) =
     elim (binds? x p) [
       | yes b ↦ (k, next k, p, rw (onward_here next k) (lt-suc_self (next k)), at, b)
@@ -51,7 +51,7 @@ goes_keeps S law (stop e) own x M h = subst (λ (z : State). z.value x ≡ some 
 goes_keeps S law (step {st} (moved {p} {v} {more} at d) g) own x M h =
     goes_keeps S law g (owned_on S st.next st.value v (messages st.run) more _ p at d own) x M (kept S law st.next st.value v (messages st.run) more _ p at d own x M h)
 
-goes_closed : {S : Protocol} {st : State} {s : List ℕ} {st' : State} → Goes S st s st' → ClosedValues st.value → ClosedValues st'.value
+pub goes_closed : {S : Protocol} {st : State} {s : List ℕ} {st' : State} → Goes S st s st' → ClosedValues st.value → ClosedValues st'.value
 goes_closed (stop e) c = subst (λ (z : State). ClosedValues z.value) e c
 goes_closed (step (moved at d) g) c = goes_closed g (does_closed c d)
 

@@ -12,3 +12,4 @@ pub mod Telling
 pub mod Needing
 pub mod Tabling
 pub mod Inspecting
+pub mod Valuing

@@ -10,7 +10,7 @@ use Rattle.runs.specs.Words.{less, if_any, branches, words, total, WordsListed}
 use Rattle.runs.proofs.Apartness.{feasible_counts}
 use Rattle.runs.proofs.Values.{is_true}
 
-abbrev Allows : (ℕ → ℕ) → List ℕ → Type 0
+abbrev pub Allows : (ℕ → ℕ) → List ℕ → Type 0
 Allows most s = (k : ℕ) → mentions k s ≤ most k
 
 -- the order
@@ -147,7 +147,7 @@ total_less (suc n) most j h p =
       | no g ↦ let a = total_less n most j (omega arith) p in let b = less_le most j n in omega arith
     ]
 
-length_total : (n : ℕ) (s : List ℕ) (most : ℕ → ℕ) → ((k : ℕ) → n ≤ k → most k ≡ 0) → Allows most s → length s ≤ total n most
+pub length_total : (n : ℕ) (s : List ℕ) (most : ℕ → ℕ) → ((k : ℕ) → n ≤ k → most k ≡ 0) → Allows most s → length s ≤ total n most
 length_total n [] most h a = omega arith
 length_total n (j ∷ t) most h a =
     let b = letter_below most n j t h a in

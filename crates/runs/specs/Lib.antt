@@ -1,5 +1,6 @@
 pub mod Protocols
 pub mod Runs
+pub mod Valued
 pub mod Schedules
 pub mod Bridge
 pub mod Apart
