@@ -1,14 +1,14 @@
 -- Whatever row of calls is made, the run is a run of some schedule, and what is written are closed messages.
-use Rattle.std.proofs.Common.{ℕ, ◌<◌, List, [], ◌∷◌, ◌++◌, length, Ok, Err, Result, sym, refl, subst, ⊎_elim, arith}
+use Rattle.std.proofs.Common.{ℕ, List, [], ◌∷◌, ◌++◌, length, Ok, Err, Result, sym, refl, subst, ⊎_elim, arith}
 use Rattle.std.proofs.lemmas.List.{get_or_append_left, get_or_push, length_push}
 use Rattle.std.proofs.lemmas.Bool.{cases_lt}
-use Rattle.terms.specs.Terms.{Term, name, env, var, pair, seal, Closed, Message, Atom, IsName}
+use Rattle.terms.specs.Terms.{Term, name, env, var, pair, seal, Closed, Atom, IsName}
 use Rattle.terms.specs.Nodes.{says, at}
 use Rattle.terms.specs.declared.node.Node.{Node}
 use Rattle.terms.specs.declared.node.Node.TheVariants.{Name, Env, Var, Pair, Seal}
 use Rattle.terms.specs.declared.number.NodeNo.{NodeNo}
 use Rattle.runs.specs.Protocols.{Protocol}
-use Rattle.runs.specs.Runs.{Runs, moved, fed, stop}
+use Rattle.runs.specs.Runs.{moved, fed, stop}
 use Rattle.runs.proofs.Releasing.{runs_on, kept_release}
 use Rattle.playing.specs.declared.calls.Call.{Call}
 use Rattle.playing.specs.declared.calls.Call.TheVariants as call
@@ -16,19 +16,8 @@ use Rattle.playing.specs.declared.faults.WriteFault.{WriteFault}
 use Rattle.playing.specs.declared.faults.WriteFault.TheVariants as w
 use Rattle.playing.specs.declared.faults.StepFault.{StepFault}
 use Rattle.playing.specs.declared.faults.StepFault.TheVariants as s
-use Rattle.playing.specs.Calls.{Situation, opened, Writable, Wrote, Fed, Moved, Called, Plays}
+use Rattle.playing.specs.Calls.{Said, AllSaid, Reached, Situation, opened, Writable, Wrote, Fed, Moved, Called, Plays}
 use Rattle.playing.specs.Laws.{PlaysRun, KeptPlay}
-
--- a closed message
-abbrev pub Said : Term → Type 0
-Said t = Closed t × Message t
-
-abbrev pub AllSaid : List Term → Type 0
-AllSaid ts = (i : ℕ) → i < length ts → Said (at ts i)
-
--- the run is one, and closed messages are written
-abbrev pub Good : Protocol → Situation → Type 0
-Good S u = ((k : List ℕ) × Runs S k u.state) × AllSaid u.written
 
 name_atom : (t : Term) → IsName t → Closed t × Atom t
 name_atom (name n) h = (tt, tt)
@@ -51,40 +40,40 @@ said_more ts t h s i l =
     (λ m. subst Said (sym (get_or_push ts t (name 0) i (omega (arith, length_push ts t)))) s)
     (cases_lt i (length ts))
 
-pub wrote_good : (names : ℕ) (S : Protocol) (u : Situation) (n : Node) (r : Result NodeNo WriteFault) (v : Situation) → Wrote names u n r v → Good S u → Good S v
-wrote_good names S u n (Ok p) v h g = subst (Good S) (sym h.3) (g.0, said_more u.written (says (at u.written) n) g.1 (said names u.written n g.1 h.0))
-wrote_good names S u n (Err w.Unlawful) v h g = subst (Good S) (sym h.1) g
-wrote_good names S u n (Err w.Full) v h g = subst (Good S) (sym h.2) g
+pub wrote_good : (names : ℕ) (S : Protocol) (u : Situation) (n : Node) (r : Result NodeNo WriteFault) (v : Situation) → Wrote names u n r v → Reached S u → Reached S v
+wrote_good names S u n (Ok p) v h g = subst (Reached S) (sym h.3) (g.0, said_more u.written (says (at u.written) n) g.1 (said names u.written n g.1 h.0))
+wrote_good names S u n (Err w.Unlawful) v h g = subst (Reached S) (sym h.1) g
+wrote_good names S u n (Err w.Full) v h g = subst (Reached S) (sym h.2) g
 
-pub fed_good : (S : Protocol) (u : Situation) (k q : ℕ) (r : Result (Unit {0}) StepFault) (v : Situation) → Fed S u k q r v → Good S u → Good S v
+pub fed_good : (S : Protocol) (u : Situation) (k q : ℕ) (r : Result (Unit {0}) StepFault) (v : Situation) → Fed S u k q r v → Reached S u → Reached S v
 fed_good S u k q (Ok o) v h g =
     let m = g.1 q h.3 in
     let move = moved h.2 (fed (at u.written q) m.0 m.1 h.4) in
-    subst (Good S) (sym h.5) ((g.0.0 ++ (k ∷ []), runs_on S g.0.0 u.state k _ g.0.1 move), g.1)
-fed_good S u k q (Err s.NoStrand) v h g = subst (Good S) (sym h.1) g
-fed_good S u k q (Err s.Finished) v h g = subst (Good S) (sym h.1) g
-fed_good S u k q (Err s.WrongCall) v h g = subst (Good S) (sym h.3) g
-fed_good S u k q (Err s.NotWritten) v h g = subst (Good S) (sym h.4) g
-fed_good S u k q (Err s.NotDerivable) v h g = subst (Good S) (sym h.5) g
+    subst (Reached S) (sym h.5) ((g.0.0 ++ (k ∷ []), runs_on S g.0.0 u.state k _ g.0.1 move), g.1)
+fed_good S u k q (Err s.NoStrand) v h g = subst (Reached S) (sym h.1) g
+fed_good S u k q (Err s.Finished) v h g = subst (Reached S) (sym h.1) g
+fed_good S u k q (Err s.WrongCall) v h g = subst (Reached S) (sym h.3) g
+fed_good S u k q (Err s.NotWritten) v h g = subst (Reached S) (sym h.4) g
+fed_good S u k q (Err s.NotDerivable) v h g = subst (Reached S) (sym h.5) g
 fed_good S u k q (Err s.Stuck) v h g = absurd h
 
-pub moved_good : (S : Protocol) (u : Situation) (k : ℕ) (r : Result (Unit {0}) StepFault) (v : Situation) → Moved S u k r v → Good S u → Good S v
+pub moved_good : (S : Protocol) (u : Situation) (k : ℕ) (r : Result (Unit {0}) StepFault) (v : Situation) → Moved S u k r v → Reached S u → Reached S v
 moved_good S u k (Ok o) v h g = ((g.0.0 ++ (k ∷ []), runs_on S g.0.0 u.state k v.state g.0.1 h.3), subst AllSaid (sym h.4) g.1)
-moved_good S u k (Err s.NoStrand) v h g = subst (Good S) (sym h.1) g
-moved_good S u k (Err s.Finished) v h g = subst (Good S) (sym h.1) g
-moved_good S u k (Err s.WrongCall) v h g = subst (Good S) (sym h.3) g
+moved_good S u k (Err s.NoStrand) v h g = subst (Reached S) (sym h.1) g
+moved_good S u k (Err s.Finished) v h g = subst (Reached S) (sym h.1) g
+moved_good S u k (Err s.WrongCall) v h g = subst (Reached S) (sym h.3) g
 moved_good S u k (Err s.NotWritten) v h g = absurd h
 moved_good S u k (Err s.NotDerivable) v h g = absurd h
-moved_good S u k (Err s.Stuck) v h g = subst (Good S) (sym h.4) g
+moved_good S u k (Err s.Stuck) v h g = subst (Reached S) (sym h.4) g
 
-pub called_good : (names : ℕ) (S : Protocol) (c : Call) (u v : Situation) → Called names S c u v → Good S u → Good S v
+pub called_good : (names : ℕ) (S : Protocol) (c : Call) (u v : Situation) → Called names S c u v → Reached S u → Reached S v
 called_good names S (call.Write n) u v h g = wrote_good names S u n h.0 v h.1 g
 called_good names S (call.Feed k q) u v h g = fed_good S u k.0 q.0 h.0 v h.1 g
 called_good names S (call.Move k) u v h g = moved_good S u k.0 h.0 v h.1 g
 
-pub plays_good : (names : ℕ) (S : Protocol) (cs : List Call) (u v : Situation) → Plays names S cs u v → Good S u → Good S v
+pub plays_good : (names : ℕ) (S : Protocol) (cs : List Call) (u v : Situation) → Plays names S cs u v → Reached S u → Reached S v
 unfolding Plays
-plays_good names S [] u v h g = subst (Good S) (sym h) g
+plays_good names S [] u v h g = subst (Reached S) (sym h) g
 plays_good names S (c ∷ cs) u v h g = plays_good names S cs h.0 v h.2 (called_good names S c u h.0 h.1 g)
 
 pub plays_run : PlaysRun

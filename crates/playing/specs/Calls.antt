@@ -1,6 +1,6 @@
 -- What a bench means, and what its calls answer. A protocol and the number of its local names are given.
 use Rattle.std.specs.Prelude.{◌≡◌, ℕ, ◌<◌, ◌≤◌, List, [], ◌∷◌, ◌++◌, length, Ok, Err, Result}
-use Rattle.terms.specs.Terms.{Term, IsName}
+use Rattle.terms.specs.Terms.{Term, IsName, Closed, Message}
 use Rattle.terms.specs.Nodes.{says, at}
 use Rattle.terms.specs.declared.node.Node.{Node}
 use Rattle.terms.specs.declared.node.Node.TheVariants.{Name, Env, Var, Pair, Seal}
@@ -8,7 +8,7 @@ use Rattle.terms.specs.declared.number.NodeNo.{NodeNo}
 use Rattle.protocol.specs.Strands.{TermStep, input, output, opens, splits, same, At}
 use Rattle.derivation.specs.Derive.{Derives}
 use Rattle.runs.specs.Protocols.{Protocol, strand}
-use Rattle.runs.specs.Runs.{State, Moves, start, bind, onward, received, messages}
+use Rattle.runs.specs.Runs.{State, Moves, Runs, start, bind, onward, received, messages}
 use Rattle.playing.specs.declared.calls.Call.{Call}
 use Rattle.playing.specs.declared.calls.Call.TheVariants as call
 use Rattle.playing.specs.declared.faults.WriteFault.{WriteFault}
@@ -96,6 +96,17 @@ abbrev pub Called : ℕ → Protocol → Call → Situation → Situation → Ty
 Called names S (call.Write n) u v = (r : Result NodeNo WriteFault) × Wrote names u n r v
 Called names S (call.Feed k q) u v = (r : Result (Unit {0}) StepFault) × Fed S u k.0 q.0 r v
 Called names S (call.Move k) u v = (r : Result (Unit {0}) StepFault) × Moved S u k.0 r v
+
+-- a closed message
+abbrev pub Said : Term → Type 0
+Said t = Closed t × Message t
+
+abbrev pub AllSaid : List Term → Type 0
+AllSaid ts = (i : ℕ) → i < length ts → Said (at ts i)
+
+-- what any row of calls leads to: the state is that of a run, and closed messages are written
+abbrev pub Reached : Protocol → Situation → Type 0
+Reached S u = ((s : List ℕ) × Runs S s u.state) × AllSaid u.written
 
 -- a row of calls
 unfoldable pub Plays : ℕ → Protocol → List Call → Situation → Situation → Type 0

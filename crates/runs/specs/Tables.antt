@@ -5,6 +5,7 @@ use Rattle.terms.specs.Nodes.{term}
 use Rattle.terms.specs.declared.node.Node.{Node}
 use Rattle.protocol.specs.declared.step.Action.{Action}
 use Rattle.protocol.specs.declared.step.Property.{Property}
+use Rattle.protocol.specs.declared.step.Direction.TheVariants.{Input}
 use Rattle.protocol.specs.Strands.{step_of}
 use Rattle.protocol.specs.Lawful.{Content, Lawful}
 use Rattle.runs.specs.Protocols.{TermAction, Protocol, LawfulProtocol}
@@ -27,6 +28,15 @@ protocol_of C p =
       earlier = earlier_of C.nodes p.earlier;
       later = action_of C.nodes p.later;
     }
+
+-- the property of a content; where there is none, one that no lawful content is asked for
+abbrev pub property_of : Option Property → Property
+property_of (Some p) = p
+property_of None = record { earlier = None; later = record { direction = Input; label = record { 0 = 0 }; node = record { 0 = 0 } } }
+
+-- the protocol that a content with a property describes
+abbrev pub described : Content → Protocol
+described C = protocol_of C (property_of C.property)
 
 -- the tables of a lawful sheet make a lawful protocol
 abbrev pub TablesLawful : Type 0

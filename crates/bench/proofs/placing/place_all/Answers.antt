@@ -1,0 +1,19 @@
+use Rattle.std.proofs.Common.{rules, ◌≡◌, None, slice_index_or, ap}
+use Rattle.pages.specs.Pages.{nodes_on}
+use Rattle.bench.proofs.Places.{swept_place, swept_skip, swept_is, swept_room}
+use Rattle.bench.proofs.placing.place_all.Goals as goal
+use Rattle.bench.proofs.placing.place_all.Goals.{then-is_none, else-is_none}
+
+pub place-requires-clause-room : goal.place-requires-clause-room
+place-requires-clause-room c =
+    let gap : slice_index_or c.loop-i.placed c.loop-i.i None ≡ None = search rules in
+    swept_room _ _ _ _ _ _ _ c.requires.room (search rules) (search rules) gap c.loop-i.invariant
+
+pub loop-i-preserved : goal.loop-i-preserved
+loop-i-preserved c =
+    elim c.if-is_none.branch [
+      | then-is_none w ↦
+          let gap : slice_index_or c.loop-i.placed c.loop-i.i None ≡ None = search rules in
+          swept_is _ _ _ _ _ _ _ _ _ (ap nodes_on w.pages-is) w.placed-is (swept_place _ _ _ _ _ _ _ _ _ c.requires.ordered c.requires.values_kept (search rules) (search rules) gap c.loop-i.invariant w.place.ensures)
+      | else-is_none w ↦ swept_is _ _ _ _ _ _ _ _ _ (ap nodes_on w.pages-is) w.placed-is (swept_skip _ _ _ _ _ _ _ (search rules) w.if-is_none.ensures c.loop-i.invariant)
+    ]

@@ -1,0 +1,77 @@
+// The values of the sheet's nodes are placed, each once and as soon as it can be told.
+ghost use Rattle.std.specs.Prelude.{◌≡◌, ℕ, ◌<◌, ◌≤◌, ◌+◌, length, None, Some, slice_index_or};
+ghost use Rattle.std.proofs.Math.Option.{some};
+ghost use Rattle.terms.specs.Nodes.{Ordered, says, term, node as node_at};
+ghost use Rattle.terms.specs.declared.number.NodeNo.{NodeNo};
+ghost use Rattle.runs.specs.Valued.{valued};
+ghost use Rattle.notebook.specs.Calls.{Lawful};
+ghost use Rattle.notebook.specs.Limits.{most_nodes};
+ghost use Rattle.pages.specs.Pages.{nodes_on};
+ghost use Rattle.bench.specs.Places.{told, value_in, KeptIn, count, PlainNode, said_by, PlacesValue, Swept};
+
+use pages::PageTable;
+use terms::{Node, NodeNo};
+
+// Places the term of a lawful node, where there is room.
+#[tactic(auto, using(crate::proofs::Places::put_value))]
+fn put(pages: &mut PageTable, node: Node) -> Option<NodeNo>
+    requires lawful { Lawful (length (nodes_on pages.old)) node }
+    requires room { length (nodes_on pages.old) < most_nodes }
+    ensures { let ns = nodes_on pages.old in PlacesValue ns (some (says (term ns) node)) result (nodes_on pages.new) }
+{
+    pages.put(node).ok()
+}
+
+// Places the value of a node over the places of its parts, where it can be told.
+fn place(
+    pages: &mut PageTable,
+    values: &[Option<NodeNo>; 64],
+    placed: &[Option<NodeNo>; 256],
+    node: Node,
+) -> Option<NodeNo>
+    requires plain { PlainNode node }
+    requires values_kept { KeptIn (nodes_on pages.old) values.now }
+    requires placed_kept { KeptIn (nodes_on pages.old) placed.now }
+    requires room { length (nodes_on pages.old) < most_nodes }
+    ensures { let ns = nodes_on pages.old in PlacesValue ns (said_by (value_in ns values.now) (λ i. told ns (slice_index_or placed.now i None)) node) result (nodes_on pages.new) }
+{
+    match node {
+        Node::Name(_) | Node::Env(_) => put(pages, node),
+        Node::Var(x) => values[x.0 as usize],
+        Node::Pair { left, right } => {
+            let l = placed[left.0 as usize]?;
+            let r = placed[right.0 as usize]?;
+            put(pages, Node::Pair { left: l, right: r })
+        }
+        Node::Seal { body, key } => {
+            let b = placed[body.0 as usize]?;
+            let k = placed[key.0 as usize]?;
+            put(pages, Node::Seal { body: b, key: k })
+        }
+    }
+}
+
+// Places the value of each node of the sheet that has one and no place yet. Each turn reads what the turns before it
+// placed, so a closure over the places would be no plainer than the loop.
+#[tactic(auto, using(crate::proofs::Places::swept_none, crate::proofs::Places::swept_skip, crate::proofs::Places::swept_place, crate::proofs::Places::swept_room, crate::proofs::Places::extends_kept))]
+pub(crate) fn place_all(
+    nodes: &[Node],
+    values: &[Option<NodeNo>; 64],
+    pages: &mut PageTable,
+    placed: &mut [Option<NodeNo>; 256],
+)
+    requires ordered { Ordered nodes.now }
+    requires plain { (i : ℕ) → i < length nodes.now → PlainNode (node_at nodes.now i) }
+    requires few { length nodes.now ≤ 256 }
+    requires values_kept { KeptIn (nodes_on pages.old) values.now }
+    requires placed_kept { KeptIn (nodes_on pages.old) placed.old }
+    requires right { let ns = nodes_on pages.old in (i : ℕ) (p : NodeNo) → i < length nodes.now → slice_index_or placed.old i None ≡ Some p → valued (value_in ns values.now) (term nodes.now i) ≡ some (term ns p.0) }
+    requires room { length (nodes_on pages.old) ≤ 512 + count placed.old }
+    ensures { Swept (nodes_on pages.old) nodes.now values.now placed.old (length nodes.now) (nodes_on pages.new) placed.new }
+{
+    for i in 0..nodes.len() {
+        if placed[i].is_none() {
+            placed[i] = place(pages, values, placed, nodes[i]);
+        }
+    }
+}
