@@ -20,6 +20,10 @@ use Rattle.notebook.specs.Calls.{Lawful, Put}
 use Rattle.notebook.specs.Limits.{most_nodes}
 use Rattle.notebook.specs.declared.faults.PutFault.{PutFault}
 use Rattle.notebook.specs.declared.faults.PutFault.TheVariants.{Unlawful, Full}
+use Rattle.protocol.specs.Lawful.{Content, Sound, NodeLaw}
+use Rattle.sheet.specs.Sheets.{content_of}
+use Rattle.sheet.specs.declared.sheet.Sheet.{Sheet}
+use Rattle.runs.proofs.Inspecting.{law_told}
 use Rattle.runs.specs.Runs.{Values}
 use Rattle.runs.specs.Valued.{valued, both}
 use Rattle.bench.specs.Places.{told, value_in, KeptIn, Placed, one, count, Extends, PlainNode, said_by, PlacesValue, Swept}
@@ -135,9 +139,9 @@ set_at P ps n r l h k i =
       | no d ↦ subst (P i) (sym (get_or-set_other ps n i r None d)) (k i)
     ]
 
-pub swept_place : (ns ss : List Node) (vs qs : List (Option NodeNo)) (n : ℕ) (ms ks : List Node) (ps : List (Option NodeNo)) (r : Option NodeNo) → Ordered ss → KeptIn ns vs → n < length ss → n < length ps → slice_index_or ps n None ≡ None → Swept ns ss vs qs n ms ps → PlacesValue ms (said_by (value_in ms vs) (λ i. told ms (slice_index_or ps i None)) (node ss n)) r ks → Swept ns ss vs qs (n + 1) ks (slice_set ps n r)
-swept_place ns ss vs qs n ms ks ps None o k l m e s h =
-    let v = swept_value ns ss vs qs n ms ps o k l s in
+pub swept_place : (ns ss : List Node) (vs qs : List (Option NodeNo)) (n : ℕ) (ms ks : List Node) (ps : List (Option NodeNo)) (x : Node) (r : Option NodeNo) → Ordered ss → KeptIn ns vs → n < length ss → n < length ps → slice_index_or ps n None ≡ None → x ≡ node ss n → Swept ns ss vs qs n ms ps → PlacesValue ms (said_by (value_in ms vs) (λ i. told ms (slice_index_or ps i None)) x) r ks → Swept ns ss vs qs (n + 1) ks (slice_set ps n r)
+swept_place ns ss vs qs n ms ks ps x None o k l m e f s h =
+    let v = ap (said_by (value_in ms vs) (λ i. told ms (slice_index_or ps i None))) f ∙ swept_value ns ss vs qs n ms ps o k l s in
     let p : slice_set ps n None ≡ ps = ap (λ (x : Option NodeNo). slice_set ps n x) (sym e) ∙ set-get_or ps n None in
     rw (h.0, p)
     record {
@@ -145,13 +149,13 @@ swept_place ns ss vs qs n ms ks ps None o k l m e s h =
       done = before_or_at (λ i. told ms (slice_index_or ps i None) ≡ valued (value_in ns vs) (term ss i)) n s.done (ap (told ms) e ∙ sym h.1 ∙ v);
       few = s.few; size = s.size;
     }
-swept_place ns ss vs qs n ms ks ps (Some p) o k l m e s h =
-    let v = swept_value ns ss vs qs n ms ps o k l s in
+swept_place ns ss vs qs n ms ks ps x (Some p) o k l m e f s h =
+    let v = ap (said_by (value_in ms vs) (λ i. told ms (slice_index_or ps i None))) f ∙ swept_value ns ss vs qs n ms ps o k l s in
     let here : valued (value_in ns vs) (term ss n) ≡ some (term ks p.0) = sym v ∙ h.3 in
     record {
       grown = extends_on ns ms ks s.grown h.0;
-      kept = set_at (λ i x. (q : NodeNo) → x ≡ Some q → q.0 < length ks) ps n (Some p) m (λ q d. subst (λ (z : NodeNo). z.0 < length ks) (some_is d) h.2) (extends_kept ms ks ps h.0 s.kept);
-      right = λ i q b d. set_at (λ j x. (z : NodeNo) → j < length ss → x ≡ Some z → valued (value_in ns vs) (term ss j) ≡ some (term ks z.0)) ps n (Some p) m
+      kept = set_at (λ i y. (q : NodeNo) → y ≡ Some q → q.0 < length ks) ps n (Some p) m (λ q d. subst (λ (z : NodeNo). z.0 < length ks) (some_is d) h.2) (extends_kept ms ks ps h.0 s.kept);
+      right = λ i q b d. set_at (λ j y. (z : NodeNo) → j < length ss → y ≡ Some z → valued (value_in ns vs) (term ss j) ≡ some (term ks z.0)) ps n (Some p) m
           (λ z b d. here ∙ ap (λ (y : NodeNo). some (term ks y.0)) (some_is d))
           (λ j z b d. s.right j z b d ∙ ap some (sym (extends_term ms ks h.0 z.0 (s.kept j z d)).1))
           i q b d;
@@ -168,3 +172,27 @@ swept_room ns ss vs qs n ms ps r z l e s = omega (arith, r, z, s.few, count_gap 
 
 pub swept_is : (ns ss : List Node) (vs qs : List (Option NodeNo)) (n : ℕ) (ms ks : List Node) (ps rs : List (Option NodeNo)) → ks ≡ ms → rs ≡ ps → Swept ns ss vs qs n ms ps → Swept ns ss vs qs n ks rs
 swept_is ns ss vs qs n ms ks ps rs e d s = rw (e, d) s
+
+-- nothing is held yet
+pub none_kept : (ns : List Node) (vs : List (Option NodeNo)) → ((x : ℕ) → slice_index_or vs x None ≡ None) → KeptIn ns vs
+none_kept ns vs h x p e = absurd (grind (arith, e, h x))
+
+-- what a lawful sheet's nodes are
+plain_node : (C : Content) → Sound C → (i : ℕ) (n : Node) → NodeLaw C i n → i < length C.nodes → PlainNode n × Below i n
+plain_node C s i (Name n) h l = (omega (arith, h, s.few_names), tt)
+plain_node C s i (Env e) h l = absurd h
+plain_node C s i (Var x) h l = (omega (arith, h, s.few_variables), tt)
+plain_node C s i (Pair a b) h l = ((omega (arith, h.0, l, s.few_nodes), omega (arith, h.1, l, s.few_nodes)), h)
+plain_node C s i (Seal b k) h l = ((omega (arith, h.0, l, s.few_nodes), omega (arith, h.1, l, s.few_nodes)), (h.0, h.1))
+
+pub sound_of : (s : Sheet) → Sound (content_of s)
+sound_of s = (law_told (content_of s) s.lawful).sound
+
+pub sheet_few : (s : Sheet) → length (content_of s).nodes ≤ 256
+sheet_few s = (sound_of s).few_nodes
+
+pub sheet_plain : (s : Sheet) (i : ℕ) → i < length (content_of s).nodes → PlainNode (node (content_of s).nodes i)
+sheet_plain s i l = let h = sound_of s in (plain_node (content_of s) h i (node (content_of s).nodes i) (h.nodes_stand i l) l).0
+
+pub sheet_ordered : (s : Sheet) → Ordered (content_of s).nodes
+sheet_ordered s i l = let h = sound_of s in (plain_node (content_of s) h i (node (content_of s).nodes i) (h.nodes_stand i l) l).1

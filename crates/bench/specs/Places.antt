@@ -12,6 +12,7 @@ use Rattle.terms.specs.declared.node.Node.TheVariants.{Name, Env, Var, Pair, Sea
 use Rattle.terms.specs.declared.number.NodeNo.{NodeNo}
 use Rattle.protocol.specs.declared.step.Action.{Action}
 use Rattle.protocol.specs.declared.step.Step.{Step}
+use Rattle.protocol.specs.declared.strand.Strand.{Strand}
 use Rattle.protocol.specs.Strands.{steps_of}
 use Rattle.runs.specs.Runs.{Values, State}
 use Rattle.runs.specs.Tables.{action_of}
@@ -32,6 +33,10 @@ value_in ns vs x = told ns (slice_index_or vs x None)
 -- the number of each strand's next step
 abbrev pub next_in : List Standing → ℕ → ℕ
 next_in ss k = slice_index_or (map (λ s. s.next) ss) k 0
+
+-- a strand before its first step
+abbrev pub standing_first : Strand → Standing
+standing_first s = record { strand = s; next = 0 }
 
 -- the steps of the strands
 abbrev pub strands_in : List Standing → List (List Step)
@@ -65,7 +70,11 @@ run_places acts = map (λ (a : Action). a.node) acts
 abbrev pub Placed : List Node → List Node → List (Option NodeNo) → List (Option NodeNo) → Type 0
 Placed ns ss vs ps = (i : ℕ) → i < length ss → told ns (slice_index_or ps i None) ≡ valued (value_in ns vs) (term ss i)
 
--- that is so in one way at most
+-- each node of the sheet that has a place has that of its value
+abbrev pub PlacedRight : List Node → List Node → List (Option NodeNo) → List (Option NodeNo) → Type 0
+PlacedRight ns ss vs ps = (i : ℕ) (p : NodeNo) → i < length ss → slice_index_or ps i None ≡ Some p → valued (value_in ns vs) (term ss i) ≡ some (term ns p.0)
+
+-- Placed is so in one way at most
 pub Placed-prop : (ns ss : List Node) (vs ps : List (Option NodeNo)) → IsProp (Placed ns ss vs ps)
 Placed-prop ns ss vs ps = Π_prop (λ i. →_prop (is_set term_set _ _))
 

@@ -1,15 +1,15 @@
 // The values of the sheet's nodes are placed, each once and as soon as it can be told.
-ghost use Rattle.std.specs.Prelude.{◌≡◌, ℕ, ◌<◌, ◌≤◌, ◌+◌, length, None, Some, slice_index_or};
+ghost use Rattle.std.specs.Prelude.{◌<◌, ◌≤◌, ◌+◌, length, None, slice_index_or};
 ghost use Rattle.std.proofs.Math.Option.{some};
-ghost use Rattle.terms.specs.Nodes.{Ordered, says, term, node as node_at};
-ghost use Rattle.terms.specs.declared.number.NodeNo.{NodeNo};
-ghost use Rattle.runs.specs.Valued.{valued};
+ghost use Rattle.terms.specs.Nodes.{says, term};
+ghost use Rattle.sheet.specs.Sheets.{content_of};
 ghost use Rattle.notebook.specs.Calls.{Lawful};
 ghost use Rattle.notebook.specs.Limits.{most_nodes};
 ghost use Rattle.pages.specs.Pages.{nodes_on};
-ghost use Rattle.bench.specs.Places.{told, value_in, KeptIn, count, PlainNode, said_by, PlacesValue, Swept};
+ghost use Rattle.bench.specs.Places.{told, value_in, KeptIn, count, PlainNode, PlacedRight, said_by, PlacesValue, Swept};
 
 use pages::PageTable;
+use sheet::Sheet;
 use terms::{Node, NodeNo};
 
 // Places the term of a lawful node, where there is room.
@@ -53,22 +53,20 @@ fn place(
 
 // Places the value of each node of the sheet that has one and no place yet. Each turn reads what the turns before it
 // placed, so a closure over the places would be no plainer than the loop.
-#[tactic(auto, using(crate::proofs::Places::swept_none, crate::proofs::Places::swept_skip, crate::proofs::Places::swept_place, crate::proofs::Places::swept_room, crate::proofs::Places::extends_kept))]
+#[tactic(auto, using(crate::proofs::Places::swept_none, crate::proofs::Places::swept_skip, crate::proofs::Places::swept_place, crate::proofs::Places::swept_room, crate::proofs::Places::extends_kept, crate::proofs::Places::sheet_few, crate::proofs::Places::sheet_plain))]
 pub(crate) fn place_all(
-    nodes: &[Node],
+    sheet: &Sheet,
     values: &[Option<NodeNo>; 64],
     pages: &mut PageTable,
     placed: &mut [Option<NodeNo>; 256],
 )
-    requires ordered { Ordered nodes.now }
-    requires plain { (i : ℕ) → i < length nodes.now → PlainNode (node_at nodes.now i) }
-    requires few { length nodes.now ≤ 256 }
     requires values_kept { KeptIn (nodes_on pages.old) values.now }
     requires placed_kept { KeptIn (nodes_on pages.old) placed.old }
-    requires right { let ns = nodes_on pages.old in (i : ℕ) (p : NodeNo) → i < length nodes.now → slice_index_or placed.old i None ≡ Some p → valued (value_in ns values.now) (term nodes.now i) ≡ some (term ns p.0) }
+    requires right { PlacedRight (nodes_on pages.old) (content_of sheet.now).nodes values.now placed.old }
     requires room { length (nodes_on pages.old) ≤ 512 + count placed.old }
-    ensures { Swept (nodes_on pages.old) nodes.now values.now placed.old (length nodes.now) (nodes_on pages.new) placed.new }
+    ensures { let ss = (content_of sheet.now).nodes in Swept (nodes_on pages.old) ss values.now placed.old (length ss) (nodes_on pages.new) placed.new }
 {
+    let nodes = sheet.nodes();
     for i in 0..nodes.len() {
         if placed[i].is_none() {
             placed[i] = place(pages, values, placed, nodes[i]);
