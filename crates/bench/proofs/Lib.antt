@@ -1,3 +1,5 @@
 pub mod Places
 pub mod Standings
 pub mod Starts
+pub mod Written
+pub mod Growth

@@ -1,7 +1,6 @@
 -- Values are placed: one, and all that can be told.
 use Rattle.std.proofs.Common.{◌≡◌, ℕ, ◌+◌, ◌<◌, ◌≤◌, List, [], ◌∷◌, ◌++◌, length, get_or, set, slice_index_or, Some, None, Option, Ok, Err, Result, refl, sym, ap, ap₂, subst, ◌∙◌, inl, inr, arith, append_assoc, append-nil, true}
 use Rattle.std.specs.Prelude.{slice_set}
-use Rattle.std.specs.Result.{result_ok}
 use Rattle.std.specs.Option.{is_some}
 use Rattle.std.specs.List.{sum_by}
 use Rattle.std.proofs.lemmas.Bool.{false≢true}
@@ -29,14 +28,17 @@ use Rattle.runs.specs.Valued.{valued, both}
 use Rattle.bench.specs.Places.{told, value_in, KeptIn, Placed, one, count, Extends, PlainNode, said_by, PlacesValue, Swept}
 
 -- a lawful node is put where there is room, and its term is the value placed
-pub put_value : (ns ms : List Node) (n : Node) (r : Result NodeNo PutFault) → Lawful (length ns) n → length ns < most_nodes → ((noted : List ℕ) → Put ns noted n r ms noted) → PlacesValue ns (some (says (term ns) n)) (result_ok r) ms
-put_value ns ms n (Ok p) l h q =
+pub put_ok : (ns ms : List Node) (n : Node) (r : Result NodeNo PutFault) → Lawful (length ns) n → length ns < most_nodes → ((noted : List ℕ) → Put ns noted n r ms noted) → (p : NodeNo) × (r ≡ Ok p) × PlacesValue ns (some (says (term ns) n)) (Some p) ms
+put_ok ns ms n (Ok p) l h q =
     let a = q [] in
     let e : length ms ≡ length ns + 1 = ap length a.3 ∙ length_push ns n in
     let t : term ms p.0 ≡ says (term ns) n = ap₂ term a.3 a.2 ∙ term_last ns n in
-    ((n ∷ [], a.3), omega (arith, e), omega (arith, e, a.2), ap some (sym t))
-put_value ns ms n (Err Unlawful) l h q = absurd ((q []).0 l)
-put_value ns ms n (Err Full) l h q = absurd (omega (arith, h, (q []).1))
+    (p, refl, ((n ∷ [], a.3), omega (arith, e), omega (arith, e, a.2), ap some (sym t)))
+put_ok ns ms n (Err Unlawful) l h q = absurd ((q []).0 l)
+put_ok ns ms n (Err Full) l h q = absurd (omega (arith, h, (q []).1))
+
+pub ok_is : {p q : NodeNo} → ◌≡◌ {A = Result NodeNo PutFault} (Ok p) (Ok q) → p ≡ q
+ok_is e = grind arith
 
 -- the value of a node, from those of its parts
 pub valued_unfolds : (v : Values) (ss : List Node) (i : ℕ) → Ordered ss → i < length ss → valued v (term ss i) ≡ said_by v (λ j. valued v (term ss j)) (node ss i)

@@ -1,11 +1,16 @@
--- The next step of a strand, and what is done to take it.
+-- The next step of a strand, what a caller may write, and what is done to take a step.
 use Rattle.std.specs.Prelude.{◌≡◌, ℕ, ◌<◌, ◌≤◌, List, [], length, Some, None, Option, Ok, Err, Result, slice_index_or}
 use Rattle.std.proofs.Math.Option.{some}
 use Rattle.std.proofs.Math.ListN.{get_elem?}
+use Rattle.terms.specs.Nodes.{at, says, term}
+use Rattle.terms.specs.declared.node.Node.{Node}
+use Rattle.terms.specs.declared.number.NodeNo.{NodeNo}
+use Rattle.notebook.specs.Calls.{Lawful}
 use Rattle.protocol.specs.declared.step.Step.{Step}
 use Rattle.protocol.specs.Strands.{At}
 use Rattle.protocol.specs.Lawful.{Content}
-use Rattle.playing.specs.Calls.{Situation}
+use Rattle.playing.specs.Calls.{Situation, Writable}
+use Rattle.bench.specs.Places.{terms_at}
 use Rattle.playing.specs.declared.faults.StepFault.{StepFault}
 use Rattle.playing.specs.declared.faults.StepFault.TheVariants.{NoStrand, Finished, WrongCall, NotWritten, NotDerivable, Stuck}
 
@@ -23,3 +28,13 @@ NextStep C u k (Err WrongCall) = ⊥
 NextStep C u k (Err NotWritten) = ⊥
 NextStep C u k (Err NotDerivable) = ⊥
 NextStep C u k (Err Stuck) = ⊥
+
+-- the page of what is written at a place, or none where nothing is
+abbrev pub PageOf : List Node → List NodeNo → ℕ → Option NodeNo → Type 0
+PageOf ns ws q None = length ws ≤ q
+PageOf ns ws q (Some p) = (q < length ws) × (p.0 < length ns) × (at (terms_at ns ws) q ≡ term ns p.0)
+
+-- a node over what is written as a node over the pages, or none where it may not be written
+abbrev pub Turned : ℕ → List Node → List NodeNo → Node → Option Node → Type 0
+Turned names ns ws n None = ¬ Writable names (terms_at ns ws) n
+Turned names ns ws n (Some m) = Writable names (terms_at ns ws) n × Lawful (length ns) m × (says (term ns) m ≡ says (at (terms_at ns ws)) n)

@@ -6,3 +6,4 @@ mod placing;
 mod standing;
 mod stepping;
 mod tables;
+mod writing;

@@ -1,5 +1,5 @@
 // The values of the sheet's nodes are placed, each once and as soon as it can be told.
-ghost use Rattle.std.specs.Prelude.{◌<◌, ◌≤◌, ◌+◌, length, None, slice_index_or};
+ghost use Rattle.std.specs.Prelude.{◌<◌, ◌≤◌, ◌+◌, length, None, Some, slice_index_or};
 ghost use Rattle.std.proofs.Math.Option.{some};
 ghost use Rattle.terms.specs.Nodes.{says, term};
 ghost use Rattle.sheet.specs.Sheets.{content_of};
@@ -13,13 +13,13 @@ use sheet::Sheet;
 use terms::{Node, NodeNo};
 
 // Places the term of a lawful node, where there is room.
-#[tactic(auto, using(crate::proofs::Places::put_value))]
-fn put(pages: &mut PageTable, node: Node) -> Option<NodeNo>
+#[tactic(auto, using(crate::proofs::Places::put_ok))]
+pub(crate) fn put(pages: &mut PageTable, node: Node) -> NodeNo
     requires lawful { Lawful (length (nodes_on pages.old)) node }
     requires room { length (nodes_on pages.old) < most_nodes }
-    ensures { let ns = nodes_on pages.old in PlacesValue ns (some (says (term ns) node)) result (nodes_on pages.new) }
+    ensures { let ns = nodes_on pages.old in PlacesValue ns (some (says (term ns) node)) (Some result) (nodes_on pages.new) }
 {
-    pages.put(node).ok()
+    pages.put(node).unwrap()
 }
 
 // Places the value of a node over the places of its parts, where it can be told.
@@ -36,17 +36,17 @@ fn place(
     ensures { let ns = nodes_on pages.old in PlacesValue ns (said_by (value_in ns values.now) (λ i. told ns (slice_index_or placed.now i None)) node) result (nodes_on pages.new) }
 {
     match node {
-        Node::Name(_) | Node::Env(_) => put(pages, node),
+        Node::Name(_) | Node::Env(_) => Some(put(pages, node)),
         Node::Var(x) => values[x.0 as usize],
         Node::Pair { left, right } => {
             let l = placed[left.0 as usize]?;
             let r = placed[right.0 as usize]?;
-            put(pages, Node::Pair { left: l, right: r })
+            Some(put(pages, Node::Pair { left: l, right: r }))
         }
         Node::Seal { body, key } => {
             let b = placed[body.0 as usize]?;
             let k = placed[key.0 as usize]?;
-            put(pages, Node::Seal { body: b, key: k })
+            Some(put(pages, Node::Seal { body: b, key: k }))
         }
     }
 }

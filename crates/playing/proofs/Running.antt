@@ -1,5 +1,5 @@
 -- Whatever row of calls is made, the run is a run of some schedule, and what is written are closed messages.
-use Rattle.std.proofs.Common.{ℕ, List, [], ◌∷◌, ◌++◌, length, Ok, Err, Result, sym, refl, subst, ⊎_elim, arith}
+use Rattle.std.proofs.Common.{◌≡◌, ℕ, List, [], ◌∷◌, ◌++◌, length, Ok, Err, Result, sym, refl, subst, ⊎_elim, arith}
 use Rattle.std.proofs.lemmas.List.{get_or_append_left, get_or_push, length_push}
 use Rattle.std.proofs.lemmas.Bool.{cases_lt}
 use Rattle.terms.specs.Terms.{Term, name, env, var, pair, seal, Closed, Atom, IsName}
@@ -8,7 +8,7 @@ use Rattle.terms.specs.declared.node.Node.{Node}
 use Rattle.terms.specs.declared.node.Node.TheVariants.{Name, Env, Var, Pair, Seal}
 use Rattle.terms.specs.declared.number.NodeNo.{NodeNo}
 use Rattle.runs.specs.Protocols.{Protocol}
-use Rattle.runs.specs.Runs.{moved, fed, stop}
+use Rattle.runs.specs.Runs.{Moves, moved, fed, stop}
 use Rattle.runs.proofs.Releasing.{runs_on, kept_release}
 use Rattle.playing.specs.declared.calls.Call.{Call}
 use Rattle.playing.specs.declared.calls.Call.TheVariants as call
@@ -16,7 +16,7 @@ use Rattle.playing.specs.declared.faults.WriteFault.{WriteFault}
 use Rattle.playing.specs.declared.faults.WriteFault.TheVariants as w
 use Rattle.playing.specs.declared.faults.StepFault.{StepFault}
 use Rattle.playing.specs.declared.faults.StepFault.TheVariants as s
-use Rattle.playing.specs.Calls.{Said, AllSaid, Reached, Situation, opened, Writable, Wrote, Fed, Moved, Called, Plays}
+use Rattle.playing.specs.Calls.{Said, AllSaid, Reached, Situation, opened, Writable, writing, Wrote, Fed, Moved, Called, Plays}
 use Rattle.playing.specs.Laws.{PlaysRun, KeptPlay}
 
 name_atom : (t : Term) → IsName t → Closed t × Atom t
@@ -40,8 +40,14 @@ said_more ts t h s i l =
     (λ m. subst Said (sym (get_or_push ts t (name 0) i (omega (arith, length_push ts t)))) s)
     (cases_lt i (length ts))
 
+pub writing_good : (names : ℕ) (S : Protocol) (u : Situation) (n : Node) (v : Situation) → Writable names u.written n → v ≡ writing u n → Reached S u → Reached S v
+writing_good names S u n v w e g = subst (Reached S) (sym e) (g.0, said_more u.written (says (at u.written) n) g.1 (said names u.written n g.1 w))
+
+pub moves_good : (S : Protocol) (u : Situation) (k : ℕ) (v : Situation) → Moves S u.state k v.state → v.written ≡ u.written → Reached S u → Reached S v
+moves_good S u k v m e g = ((g.0.0 ++ (k ∷ []), runs_on S g.0.0 u.state k v.state g.0.1 m), subst AllSaid (sym e) g.1)
+
 pub wrote_good : (names : ℕ) (S : Protocol) (u : Situation) (n : Node) (r : Result NodeNo WriteFault) (v : Situation) → Wrote names u n r v → Reached S u → Reached S v
-wrote_good names S u n (Ok p) v h g = subst (Reached S) (sym h.3) (g.0, said_more u.written (says (at u.written) n) g.1 (said names u.written n g.1 h.0))
+wrote_good names S u n (Ok p) v h g = writing_good names S u n v h.0 h.3 g
 wrote_good names S u n (Err w.Unlawful) v h g = subst (Reached S) (sym h.1) g
 wrote_good names S u n (Err w.Full) v h g = subst (Reached S) (sym h.2) g
 
@@ -58,7 +64,7 @@ fed_good S u k q (Err s.NotDerivable) v h g = subst (Reached S) (sym h.5) g
 fed_good S u k q (Err s.Stuck) v h g = absurd h
 
 pub moved_good : (S : Protocol) (u : Situation) (k : ℕ) (r : Result (Unit {0}) StepFault) (v : Situation) → Moved S u k r v → Reached S u → Reached S v
-moved_good S u k (Ok o) v h g = ((g.0.0 ++ (k ∷ []), runs_on S g.0.0 u.state k v.state g.0.1 h.3), subst AllSaid (sym h.4) g.1)
+moved_good S u k (Ok o) v h g = moves_good S u k v h.3 h.4 g
 moved_good S u k (Err s.NoStrand) v h g = subst (Reached S) (sym h.1) g
 moved_good S u k (Err s.Finished) v h g = subst (Reached S) (sym h.1) g
 moved_good S u k (Err s.WrongCall) v h g = subst (Reached S) (sym h.3) g
