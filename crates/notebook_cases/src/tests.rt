@@ -1,4 +1,4 @@
-// A module for each subject, and the script that all of them are written in.
+// A module for each subject, and the script that those of the notebooks are written in.
 mod agreement;
 mod derivable;
 mod keys;
@@ -6,3 +6,4 @@ mod limits;
 mod lists;
 mod script;
 mod shared;
+mod tables;

@@ -1,3 +1,3 @@
-pub mod Columns
 pub mod Lists
+pub mod Numbers
 pub mod Paging

@@ -3,7 +3,7 @@ ghost use Rattle.notebooks.specs.Lists.{nodes_of, noted_of};
 ghost use Rattle.notebooks.specs.Paging.{pages_lawful};
 
 use crate::marks::Marks;
-use crate::page::Pages;
+use crate::noted::Pages;
 use notebook::{MOST_NODES, NoteFault, Notebook, PutFault};
 use std::alloc::{AllocError, Global};
 use terms::{Node, NodeNo};
@@ -42,14 +42,14 @@ impl Notebook for AskingNotebook {
     }
 
     fn derivable(&self, place: NodeNo) -> bool {
-        if !self.pages.holds(place) {
+        if !self.pages.table.holds(place) {
             return false;
         }
         // as many marks as there can be nodes: a question takes no memory
         let mut known = [false; MOST_NODES];
         let mut marks = Marks {
             pages: &self.pages,
-            known: &mut known[..self.pages.len()],
+            known: &mut known[..self.pages.table.len()],
         };
         marks.mark_noted();
         marks.settle();

@@ -12,6 +12,7 @@ use terms::{Node, NodeNo};
 
 impl Known<'_> {
     // Whether the term at a place is known or put together, from the table of the places before it.
+    #[tactic(auto, using(crate::proofs::Rows::name_told))]
     fn makes(&self, made: &[bool; MOST_NODES], place: NodeNo) -> bool
         requires held { place.0 < length (nodes_of self.now.pages.now) }
         requires below { Made (nodes_of self.now.pages.now) self.now.known.now made.now place.0 }
@@ -25,7 +26,7 @@ impl Known<'_> {
             Node::Name(_) | Node::Var(_) => false,
             Node::Pair { left, right } => made[left.0 as usize] && made[right.0 as usize],
             Node::Seal { body, key } => {
-                self.pages.is_name(key) && made[body.0 as usize] && made[key.0 as usize]
+                self.pages.table.is_name(key) && made[body.0 as usize] && made[key.0 as usize]
             }
         }
     }

@@ -6,7 +6,7 @@ ghost use Rattle.notebooks.specs.Lists.{nodes_of, noted_of};
 ghost use Rattle.notebooks.specs.Paging.{pages_lawful};
 
 use crate::marks::Known;
-use crate::page::Pages;
+use crate::noted::Pages;
 use notebook::{MOST_NODES, NoteFault, Notebook, PutFault};
 use std::alloc::{AllocError, Global};
 use terms::{Node, NodeNo};
@@ -55,7 +55,7 @@ impl Notebook for KeepingNotebook {
     }
 
     fn derivable(&self, place: NodeNo) -> bool {
-        if !self.pages.holds(place) {
+        if !self.pages.table.holds(place) {
             return false;
         }
         let known = Known {

@@ -5,12 +5,12 @@
 #![tactic(auto)]
 
 mod asking;
+mod calls;
 mod composing;
 mod keeping;
 mod marking;
 mod marks;
-mod page;
-mod pages;
+mod noted;
 
 pub use asking::AskingNotebook;
 pub use keeping::KeepingNotebook;

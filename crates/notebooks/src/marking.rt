@@ -8,7 +8,7 @@ ghost use Rattle.analysis.specs.Marks.{Marked, Spread, Passing, Settled, Learned
 ghost use Rattle.notebooks.specs.Lists.{nodes_of, noted_of, Same};
 
 use crate::marks::{Known, Marks};
-use crate::page::Pages;
+use crate::noted::Pages;
 use terms::{Node, NodeNo};
 
 impl Known<'_> {
@@ -91,7 +91,7 @@ impl Marks<'_> {
         ensures passing { Passing (nodes_of self.old.pages.now) self.old.known.now 0 self.new.known.now result }
     {
         let mut changed = false;
-        for i in (0..self.pages.len()).rev() {
+        for i in (0..self.pages.table.len()).rev() {
             if self.spread(NodeNo(i as u16)) {
                 changed = true;
             }

@@ -1,6 +1,6 @@
 -- What pages say, as the list that they mean does: none, one page more, and what is read of one.
-use Rattle.std.proofs.Common.{◌≡◌, ℕ, ◌<◌, Bool, List, [], ◌∷◌, ◌++◌, length, Some, None, Option, Bor, option_copied, ◌≢◌, slice_index_or, sym, ap, subst, ◌∙◌, arith}
-use Rattle.std.specs.Prelude.{MatchOption, unwrap_or, Decides}
+use Rattle.std.proofs.Common.{◌≡◌, ℕ, ◌<◌, ◌≤◌, List, [], ◌∷◌, ◌++◌, length, Some, None, Option, Bor, option_copied, ◌≢◌, slice_index_or, sym, ap, subst, ◌∙◌, arith}
+use Rattle.std.specs.Prelude.{MatchOption, unwrap_or}
 use Rattle.std.specs.List.{AllWithin, HoldsAt}
 use Rattle.std.specs.Slice.{IsItemAt}
 use Rattle.std.proofs.lemmas.Bool.{ltb-true, ltb-false}
@@ -11,15 +11,16 @@ use Rattle.terms.proofs.Unfolding.{unfolds}
 use Rattle.analysis.specs.Places.{first, firsts}
 use Rattle.analysis.proofs.Finding.{first_at}
 use Rattle.notebook.specs.Calls.{Lawful}
+use Rattle.notebook.specs.Limits.{most_nodes}
 use Rattle.pages.specs.declared.page.Page.{Page}
 use Rattle.pages.specs.declared.page.PageTable.{PageTable}
 use Rattle.pages.specs.Columns.{AllLawful, nodes_in, firsts_in}
 use Rattle.pages.specs.Pages.{nodes_on, PageAt}
-use Rattle.pages.proofs.Rows.{lawful_ordered, below_wider, first_of, firsts_decide, first_found, first_new}
+use Rattle.pages.proofs.Rows.{lawful_ordered, below_wider, first_of, first_found, first_new}
 use Rattle.pages.proofs.Rows as rows
 
 -- there are as many nodes as pages
-pub length_nodes : (ps : List Page) → length (nodes_in ps) ≡ length ps
+length_nodes : (ps : List Page) → length (nodes_in ps) ≡ length ps
 length_nodes ps = length-map ps (λ p. p.node)
 
 -- none
@@ -40,6 +41,10 @@ pub push_firsts : (ps qs : List Page) (p : Page) → firsts_in ps ≡ firsts (no
 push_firsts ps qs p e d m =
     rows.push_firsts (nodes_in ps) (nodes_in qs) p.node (firsts_in ps) (firsts_in qs) p.first e d (push_nodes ps qs p m) (ap firsts_in m ∙ map_push (λ x. x.first) ps p)
 
+-- there are no more nodes than a notebook has
+pub few_nodes : (t : PageTable) → length (nodes_on t) ≤ most_nodes
+few_nodes t = let n = t.list.ok.0 in omega (arith, t.few, length_nodes t.list.items)
+
 -- what is read of a page
 pub page_ordered : (p : PageTable) → Ordered (nodes_on p)
 page_ordered p = lawful_ordered (nodes_on p) p.lawful
@@ -52,10 +57,14 @@ page_node p i x l e =
 pub node_below : (p : PageTable) (i : ℕ) (x : Page) → i < length (nodes_on p) → x ≡ slice_index_or p.list.items i x → Below i x.node
 node_below p i x l e = subst (Below i) (page_node p i x l e) (page_ordered p i l)
 
-pub node_says : (p : PageTable) (i : ℕ) (x : Page) → i < length (nodes_on p) → x ≡ slice_index_or p.list.items i x → term (nodes_on p) i ≡ says (term (nodes_on p)) x.node
-node_says p i x l e = unfolds (nodes_on p) (page_ordered p) i l ∙ ap (says (term (nodes_on p))) (page_node p i x l e)
+-- the term at a place is what its node says
+pub page_says : (p : PageTable) (i : ℕ) (n : Node) → i < length (nodes_on p) → n ≡ node (nodes_on p) i → term (nodes_on p) i ≡ says (term (nodes_on p)) n
+page_says p i n l e = unfolds (nodes_on p) (page_ordered p) i l ∙ ap (says (term (nodes_on p))) (sym e)
 
-pub page_first : (p : PageTable) (i : ℕ) (x : Page) → i < length (nodes_on p) → x ≡ slice_index_or p.list.items i x → x.first.0 ≡ first (nodes_on p) (term (nodes_on p) i)
+pub node_says : (p : PageTable) (i : ℕ) (x : Page) → i < length (nodes_on p) → x ≡ slice_index_or p.list.items i x → term (nodes_on p) i ≡ says (term (nodes_on p)) x.node
+node_says p i x l e = page_says p i x.node l (sym (page_node p i x l e))
+
+page_first : (p : PageTable) (i : ℕ) (x : Page) → i < length (nodes_on p) → x ≡ slice_index_or p.list.items i x → x.first.0 ≡ first (nodes_on p) (term (nodes_on p) i)
 page_first p i x l e =
     let k : i < length p.list.items = omega (arith, length_nodes p.list.items) in
     first_of (nodes_on p) (firsts_in p.list.items) i x.first p.places l (ap (λ (q : Page). q.first) e ∙ sym (get_or-map (λ q. q.first) p.list.items i x x.first k))
@@ -100,13 +109,3 @@ page_at t i None h = omega (arith, length_nodes t.list.items, ltb-false _ _ (sym
 page_at t i (Some x) h =
     let l : i < length (nodes_on t) = omega (arith, length_nodes t.list.items, ltb-true _ _ (sym h.0)) in
     (l, sym (page_node t i x.now l h.1), page_first t i x.now l h.1)
-
--- two places that are held hold one term where their first places are one
-pub same_told : (ns : List Node) (i j : ℕ) (x y : Page) (r : Bool) → PageAt ns i (Some x) → PageAt ns j (Some y) → Decides r (x.first.0 ≡ y.first.0) → Decides r ((i < length ns) × (j < length ns) × (term ns i ≡ term ns j))
-same_told ns i j x y r p q d =
-    let e = firsts_decide ns i j x.first.0 y.first.0 r p.0 q.0 p.2 q.2 d in
-    (λ t. (p.0, q.0, e.0 t), λ t. e.1 t.2)
-
--- the term of a page
-pub page_says : (t : PageTable) (i : ℕ) (x : Page) → PageAt (nodes_on t) i (Some x) → term (nodes_on t) i ≡ says (term (nodes_on t)) x.node
-page_says t i x p = unfolds (nodes_on t) (page_ordered t) i p.0 ∙ ap (says (term (nodes_on t))) (sym p.1)

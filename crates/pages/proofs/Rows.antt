@@ -1,7 +1,8 @@
 -- Lists of lawful nodes: none, one node more, and when two places hold one term.
-use Rattle.std.proofs.Common.{◌≡◌, ℕ, ◌<◌, ◌≤◌, Bool, List, [], ◌∷◌, ◌++◌, length, get_or, Decides, ◌≢◌, slice_index_or, sym, ap, ap₂, subst, ◌∙◌, ⊎_elim, arith}
+use Rattle.std.proofs.Common.{◌≡◌, ℕ, ◌<◌, ◌≤◌, Bool, List, [], ◌∷◌, ◌++◌, length, get_or, Decides, ◌≢◌, slice_index_or, ◌==◌, sym, ap, ap₂, subst, ◌∙◌, ⊎_elim, arith}
 use Rattle.std.proofs.lemmas.List.{length_push, get_or_append_left, get_or_push}
 use Rattle.std.proofs.lemmas.Bool.{cases_lt}
+use Rattle.std.proofs.lemmas.Bool.Decides.{Decides-at, Decides-eqb}
 use Rattle.terms.specs.Nodes.{node, no_node, says, term, terms, Below, Ordered}
 use Rattle.terms.specs.declared.node.Node.{Node}
 use Rattle.terms.specs.declared.node.Node.TheVariants.{Name, Env, Var, Pair, Seal}
@@ -13,7 +14,7 @@ use Rattle.notebook.specs.Calls.{Lawful}
 use Rattle.pages.specs.Columns.{AllLawful}
 
 -- the parts of a lawful node stand before it
-pub lawful_below : (i : ℕ) (n : Node) → Lawful i n → Below i n
+lawful_below : (i : ℕ) (n : Node) → Lawful i n → Below i n
 lawful_below i (Name n) l = tt
 lawful_below i (Env n) l = tt
 lawful_below i (Var n) l = tt
@@ -59,11 +60,12 @@ push_firsts ns ms n fs gs f e d m g =
 pub first_of : (ns : List Node) (fs : List NodeNo) (i : ℕ) (f : NodeNo) → fs ≡ firsts ns → i < length ns → f ≡ slice_index_or fs i f → f.0 ≡ first ns (term ns i)
 first_of ns fs i f e l p = ap (λ (n : NodeNo). n.0) (p ∙ ap (λ (l : List NodeNo). get_or l i f) e) ∙ firsts_at ns i f l
 
--- a test of first places tells whether two places hold one term
-pub firsts_decide : (ns : List Node) (i j f g : ℕ) (r : Bool) → i < length ns → j < length ns → f ≡ first ns (term ns i) → g ≡ first ns (term ns j) → Decides r (f ≡ g) → Decides r (term ns i ≡ term ns j)
-firsts_decide ns i j f g r l m x y d =
+-- two places that are held hold one term where their first places are one
+pub same_told : (ns : List Node) (i j : ℕ) (r : Bool) → i < length ns → j < length ns → r ≡ (first ns (term ns i) == first ns (term ns j)) → Decides r ((i < length ns) × (j < length ns) × (term ns i ≡ term ns j))
+same_told ns i j r l m e =
     let s = first_places ns i j l m in
-    (λ t. s.2 (sym x ∙ d.0 t ∙ y), λ t. d.1 (x ∙ s.3 t ∙ sym y))
+    let d = Decides-at _ _ e (Decides-eqb _ _) in
+    (λ t. (l, m, s.2 (d.0 t)), λ t. d.1 (s.3 t.2))
 
 -- a place that holds the term of a node, and none before it does, is the term's first
 pub first_found : (ns : List Node) (n : Node) (i : ℕ) → Ordered ns → i < length ns → says (term ns) (node ns i) ≡ says (term ns) n → ((k : ℕ) → k < i → term ns k ≢ says (term ns) n) → i ≡ first ns (says (term ns) n)

@@ -1,15 +1,12 @@
--- What the nodes of a table say: closed terms, and messages where each key is a name.
-use Rattle.std.proofs.Common.{◌≡◌, ℕ, zero, suc, ◌<◌, Bool, List, length, Decides, sym, subst, arith}
-use Rattle.terms.specs.Terms.{Term, IsName, Message, Atom, Closed}
+-- What the nodes of a table say: closed terms, so that the names alone are keys.
+use Rattle.std.proofs.Common.{ℕ, zero, suc, ◌<◌, Bool, List, length, Decides, sym, subst, arith}
+use Rattle.terms.specs.Terms.{Term, IsName, Atom, Closed}
 use Rattle.terms.specs.Nodes.{node, says, term}
 use Rattle.terms.specs.declared.node.Node.{Node}
 use Rattle.terms.specs.declared.node.Node.TheVariants.{Name, Env, Var, Pair, Seal}
-use Rattle.terms.specs.declared.number.NodeNo.{NodeNo}
 use Rattle.terms.proofs.Unfolding.{unfolds}
 use Rattle.notebook.specs.Calls.{Lawful}
-use Rattle.pages.specs.declared.page.PageTable.{PageTable}
 use Rattle.pages.specs.Columns.{AllLawful}
-use Rattle.pages.specs.Pages.{nodes_on}
 use Rattle.pages.proofs.Rows.{lawful_ordered}
 
 closed_says : (f : ℕ → Term) (i : ℕ) (n : Node) → Lawful i n → ((j : ℕ) → j < i → Closed (f j)) → Closed (says f n)
@@ -34,8 +31,6 @@ atom_name t c a = grind arith
 name_atom : (t : Term) → IsName t → Atom t
 name_atom t n = grind arith
 
--- a seal whose body is a message is one where its key is a name
-pub key_told : (t : PageTable) (i : ℕ) (b k : NodeNo) (r : Bool) → i < length (nodes_on t) → term (nodes_on t) i ≡ says (term (nodes_on t)) (Seal b k) → k.0 < i → Message (term (nodes_on t) b.0) → Decides r ((k.0 < length (nodes_on t)) × IsName (term (nodes_on t) k.0)) → Decides r (Message (term (nodes_on t) i))
-key_told t i b k r l e m h d =
-    let c = terms_closed (nodes_on t) t.lawful k.0 (omega arith) in
-    (λ y. subst Message (sym e) (h, name_atom _ (d.0 y).1), λ y. let p : Message (says (term (nodes_on t)) (Seal b k)) = subst Message e y in d.1 (omega arith, atom_name _ c p.1))
+-- of closed terms the names alone are atoms
+pub key_told : (ns : List Node) → AllLawful ns → (i : ℕ) (r : Bool) → i < length ns → Decides r ((i < length ns) × IsName (term ns i)) → Decides r (Atom (term ns i))
+key_told ns h i r l d = (λ y. name_atom _ (d.0 y).1, λ y. d.1 (l, atom_name _ (terms_closed ns h i l) y))

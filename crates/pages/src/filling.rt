@@ -27,13 +27,6 @@ impl PageTable {
         self.list.clear();
     }
 
-    // Whether a place is held. No type says so: a place is held by some tables and not by others.
-    pub(crate) fn holds(&self, place: NodeNo) -> bool
-        ensures { Decides result (place.0 < length (nodes_on self.now)) }
-    {
-        (place.0 as usize) < self.list.len()
-    }
-
     // Whether a node may stand at the next place.
     fn is_lawful(&self, node: Node) -> bool
         ensures { Decides result (Lawful (length (nodes_on self.now)) node) }

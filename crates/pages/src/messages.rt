@@ -2,7 +2,7 @@
 // numbers: each place is looked at once however large its tree is.
 ghost use Rattle.std.specs.Prelude.{◌<◌, ◌≤◌, length, Decides};
 ghost use Rattle.terms.specs.Nodes.{term};
-ghost use Rattle.terms.specs.Terms.{Message};
+ghost use Rattle.terms.specs.Terms.{Atom, Message};
 ghost use Rattle.pages.specs.Pages.{nodes_on, Told};
 
 use crate::page::PageTable;
@@ -10,6 +10,14 @@ use notebook::MOST_NODES;
 use terms::{Node, NodeNo};
 
 impl PageTable {
+    // Whether the term at a place may be a key of a message: no variable stands here, so that is whether it is a name.
+    fn is_key(&self, place: NodeNo) -> bool
+        requires { place.0 < length (nodes_on self.now) }
+        ensures { Decides result (Atom (term (nodes_on self.now) place.0)) }
+    {
+        self.is_name(place)
+    }
+
     // Whether the term of a node is a message, from the table of the places before it.
     fn is_said(&self, said: &[bool; MOST_NODES], place: NodeNo) -> bool
         requires held { place.0 < length (nodes_on self.now) }
@@ -19,7 +27,7 @@ impl PageTable {
         match self.node(place) {
             Node::Name(_) | Node::Env(_) | Node::Var(_) => true,
             Node::Pair { left, right } => said[left.0 as usize] && said[right.0 as usize],
-            Node::Seal { body, key } => said[body.0 as usize] && self.is_name(key),
+            Node::Seal { body, key } => said[body.0 as usize] && self.is_key(key),
         }
     }
 

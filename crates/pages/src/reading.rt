@@ -15,6 +15,13 @@ impl PageTable {
         self.list.len()
     }
 
+    // Whether a place is held. No type says so: a place is held by some tables and not by others.
+    pub fn holds(&self, place: NodeNo) -> bool
+        ensures { Decides result (place.0 < length (nodes_on self.now)) }
+    {
+        (place.0 as usize) < self.list.len()
+    }
+
     // The page at a place.
     #[tactic(auto, using(crate::proofs::Paging::page_at))]
     pub fn get(&self, place: NodeNo) -> Option<Page>
@@ -34,6 +41,7 @@ impl PageTable {
     }
 
     // Whether two places are held and hold one term.
+    #[tactic(auto, using(crate::proofs::Rows::same_told))]
     pub fn same(&self, a: NodeNo, b: NodeNo) -> bool
         ensures { let ns = nodes_on self.now in Decides result ((a.0 < length ns) × (b.0 < length ns) × (term ns a.0 ≡ term ns b.0)) }
     {

@@ -9,4 +9,4 @@ invariant_of-self c =
 pub invariant_of-self-2-clause-parts : goal.invariant_of-self-2-clause-parts
 invariant_of-self-2-clause-parts c =
     let b = c.args.self.now in
-    put_parts _ _ _ _ c.args.node c.in_ok-place.place _ _ b.pages.lawful b.pages.held c.in_ok-place.ensures c.push_reserved.ensures.items b.parts
+    put_parts _ _ _ _ c.args.node c.in_ok-place.place _ _ b.pages.table.lawful b.pages.held c.in_ok-place.ensures c.push_reserved.ensures.items b.parts
