@@ -3,3 +3,5 @@ pub mod Standings
 pub mod Starts
 pub mod Written
 pub mod Growth
+pub mod Taken
+pub mod Shapely

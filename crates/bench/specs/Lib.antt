@@ -1,3 +1,4 @@
 pub mod Places
 pub mod Tables
 pub mod Steps
+pub mod Effects

@@ -1,9 +1,12 @@
 // A bench plays runs of a sheet, call by call, over any notebook.
 #![tactic(auto)]
 
+mod effect;
 mod opening;
 mod placing;
+mod shapes;
 mod standing;
 mod stepping;
 mod tables;
+mod taking;
 mod writing;

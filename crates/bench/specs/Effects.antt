@@ -1,0 +1,71 @@
+-- What a step does, by the places of the terms that it binds or adds to the run.
+use Rattle.std.specs.Prelude.{◌≡◌, ℕ, ◌<◌, List, [], ◌∷◌, length, Some, None, Option, Ok, Err, Result}
+use Rattle.std.proofs.Math.Option.{none, some}
+use Rattle.terms.specs.Terms.{Term, pair, seal}
+use Rattle.terms.specs.Nodes.{term}
+use Rattle.terms.specs.declared.node.Node.{Node}
+use Rattle.terms.specs.declared.number.NodeNo.{NodeNo}
+use Rattle.protocol.specs.Strands.{TermStep}
+use Rattle.runs.specs.Protocols.{TermAction}
+use Rattle.runs.specs.Runs.{Values, Does, bind}
+use Rattle.runs.specs.Tables.{action_of}
+use Rattle.runs.specs.Valued.{valued}
+use Rattle.playing.specs.Calls.{IsInput}
+use Rattle.playing.specs.declared.faults.StepFault.{StepFault}
+use Rattle.playing.specs.declared.faults.StepFault.TheVariants.{NoStrand, Finished, WrongCall, NotWritten, NotDerivable, Stuck}
+use Rattle.bench.specs.declared.effect.Effect.{Effect}
+use Rattle.bench.specs.declared.effect.Effect.TheVariants.{Receive, Send, Open, Split, Agree}
+
+-- the values after it
+abbrev pub bound : List Node → Values → Effect → Values
+bound ns v (Receive a x) = bind v x.0 (term ns a.node.0)
+bound ns v (Send a) = v
+bound ns v (Open x p) = bind v x.0 (term ns p.0)
+bound ns v (Split x p y q) = bind (bind v x.0 (term ns p.0)) y.0 (term ns q.0)
+bound ns v Agree = v
+
+-- the actions that it adds
+abbrev pub added : List Node → Effect → List TermAction
+added ns (Receive a x) = action_of ns a ∷ []
+added ns (Send a) = action_of ns a ∷ []
+added ns (Open x p) = []
+added ns (Split x p y q) = []
+added ns Agree = []
+
+-- its places are held, and its variables are those of a table
+abbrev pub EffectHeld : List Node → Effect → Type 0
+EffectHeld ns (Receive a x) = (a.node.0 < length ns) × (x.0 < 64)
+EffectHeld ns (Send a) = a.node.0 < length ns
+EffectHeld ns (Open x p) = (p.0 < length ns) × (x.0 < 64)
+EffectHeld ns (Split x p y q) = (p.0 < length ns) × (x.0 < 64) × (q.0 < length ns) × (y.0 < 64)
+EffectHeld ns Agree = Unit {0}
+
+-- the place of a term's value, where it has one
+abbrev pub ValueAt : List Node → Values → Term → Option NodeNo → Type 0
+ValueAt ns v t None = valued v t ≡ none
+ValueAt ns v t (Some p) = (p.0 < length ns) × (valued v t ≡ some (term ns p.0))
+
+-- what taking the step does, or none where it cannot be taken
+abbrev pub DoneBy : List Node → Values → List Term → TermStep → Option Effect → Type 0
+DoneBy ns v K p None = (w : Values) (r : List TermAction) → ¬ Does v K p w r
+DoneBy ns v K p (Some e) = EffectHeld ns e × Does v K p (bound ns v e) (added ns e)
+
+-- what a move does, or why there is none
+abbrev pub TakenBy : List Node → Values → List Term → TermStep → Result Effect StepFault → Type 0
+TakenBy ns v K p (Ok e) = (¬ IsInput p) × EffectHeld ns e × Does v K p (bound ns v e) (added ns e)
+TakenBy ns v K p (Err NoStrand) = ⊥
+TakenBy ns v K p (Err Finished) = ⊥
+TakenBy ns v K p (Err WrongCall) = IsInput p
+TakenBy ns v K p (Err NotWritten) = ⊥
+TakenBy ns v K p (Err NotDerivable) = ⊥
+TakenBy ns v K p (Err Stuck) = (¬ IsInput p) × ((w : Values) (r : List TermAction) → ¬ Does v K p w r)
+
+-- the halves of a pair at a place, where there is one
+abbrev pub PairAt : List Node → ℕ → Option (NodeNo × NodeNo) → Type 0
+PairAt ns i None = (a b : Term) → ¬ (term ns i ≡ pair a b)
+PairAt ns i (Some (p, q)) = (p.0 < length ns) × (q.0 < length ns) × (term ns i ≡ pair (term ns p.0) (term ns q.0))
+
+-- body and key of a seal at a place, where there is one
+abbrev pub SealAt : List Node → ℕ → Option (NodeNo × NodeNo) → Type 0
+SealAt ns i None = (b k : Term) → ¬ (term ns i ≡ seal b k)
+SealAt ns i (Some (p, q)) = (p.0 < length ns) × (q.0 < length ns) × (term ns i ≡ seal (term ns p.0) (term ns q.0))
