@@ -5,7 +5,8 @@ use Rattle.terms.specs.Terms.{Term, pair, seal, Message}
 use Rattle.terms.specs.Nodes.{term}
 use Rattle.terms.specs.declared.node.Node.{Node}
 use Rattle.terms.specs.declared.number.NodeNo.{NodeNo}
-use Rattle.protocol.specs.Strands.{TermStep, output, opens, splits, same, At}
+use Rattle.terms.specs.declared.number.Variable.{Variable}
+use Rattle.protocol.specs.Strands.{TermStep, output, opens, splits, same, second}
 use Rattle.protocol.specs.declared.step.Action.{Action}
 use Rattle.protocol.specs.declared.step.Direction.{Direction}
 use Rattle.protocol.specs.declared.step.Direction.TheVariants.{Output}
@@ -14,10 +15,10 @@ use Rattle.runs.specs.Runs.{Values, Means, Does, put_out, opened, halved, agreed
 use Rattle.runs.specs.Valued.{valued}
 use Rattle.runs.proofs.Valuing.{means_valued, valued_means}
 use Rattle.bench.specs.Places.{told, value_in, KeptIn, Placed}
-use Rattle.bench.specs.Effects.{ValueAt, DoneBy}
+use Rattle.bench.specs.Effects.{ValueAt, DoneBy, PairAt, SealAt}
 use Rattle.bench.specs.Tables.{sheet_in, nodes_of, situation}
 use Rattle.bench.specs.declared.tables.Tables.{Tables}
-use Rattle.bench.specs.declared.effect.Effect.TheVariants.{Send}
+use Rattle.bench.specs.declared.effect.Effect.TheVariants.{Send, Open, Split, Agree}
 
 pub value_at : (t : Tables) (i : ℕ) (o : Option NodeNo) → i < length (sheet_in t).nodes → o ≡ slice_index_or t.placed i None → ValueAt (nodes_of t) (situation t).state.value (term (sheet_in t).nodes i) o
 value_at t i None l e = sym (t.told i l) ∙ ap (told (nodes_of t)) (sym e)
@@ -39,3 +40,48 @@ send_no_message ns v K l t p h n w r = no_message v K l t (term ns p.0) w r h.1 
 pub send_yes : (ns : List Node) (v : Values) (K : List Term) (a : Action) (t : Term) → ValueAt ns v t (Some a.node) → Message (term ns a.node.0) → a.direction ≡ Output → DoneBy ns v K (output a.label.0 t) (Some (Send a))
 send_yes ns v K a t h m e =
     (h.0, subst (λ (d : Direction). Does v K (output a.label.0 t) v (record { direction = d; label = a.label.0; term = term ns a.node.0 } ∷ [])) (sym e) (put_out (valued_means v t (term ns a.node.0) h.1) m))
+
+-- an open
+pub open_no_value : (ns : List Node) (v : Values) (K : List Term) (t : Term) (x : ℕ) (c : Term) → ValueAt ns v t None → DoneBy ns v K (opens t x c) None
+open_no_value ns v K t x c h w r (opened m k) = none_some (sym h ∙ means_valued m)
+
+pub open_no_key : (ns : List Node) (v : Values) (K : List Term) (t : Term) (x : ℕ) (c : Term) → ValueAt ns v c None → DoneBy ns v K (opens t x c) None
+open_no_key ns v K t x c h w r (opened m k) = none_some (sym h ∙ means_valued k)
+
+pub open_no_seal : (ns : List Node) (v : Values) (K : List Term) (t : Term) (x : ℕ) (c : Term) (p : NodeNo) → ValueAt ns v t (Some p) → SealAt ns p.0 None → DoneBy ns v K (opens t x c) None
+open_no_seal ns v K t x c p h n w r (opened {b = b} {c = k} m d) = n b k (some-injective (term ns p.0) (seal b k) (sym h.1 ∙ means_valued m))
+
+pub open_other : (ns : List Node) (v : Values) (K : List Term) (t : Term) (x : ℕ) (c : Term) (p q b k : NodeNo) → ValueAt ns v t (Some p) → ValueAt ns v c (Some q) → SealAt ns p.0 (Some (b, k)) → ¬ (term ns k.0 ≡ term ns q.0) → DoneBy ns v K (opens t x c) None
+open_other ns v K t x c p q b k h g s n w r (opened {b = b'} {c = k'} m d) =
+    let e : seal (term ns b.0) (term ns k.0) ≡ seal b' k' = sym s.2 ∙ some-injective (term ns p.0) (seal b' k') (sym h.1 ∙ means_valued m) in
+    let f : term ns q.0 ≡ k' = some-injective (term ns q.0) k' (sym g.1 ∙ means_valued d) in
+    n (ap second e ∙ sym f)
+
+pub open_yes : (ns : List Node) (v : Values) (K : List Term) (t : Term) (x : Variable) (c : Term) (p q b k : NodeNo) → x.0 < 64 → ValueAt ns v t (Some p) → ValueAt ns v c (Some q) → SealAt ns p.0 (Some (b, k)) → term ns k.0 ≡ term ns q.0 → DoneBy ns v K (opens t x.0 c) (Some (Open x b))
+open_yes ns v K t x c p q b k l h g s e =
+    ((s.0, l), opened (valued_means v t (seal (term ns b.0) (term ns k.0)) (h.1 ∙ ap some s.2)) (valued_means v c (term ns k.0) (g.1 ∙ ap some (sym e))))
+
+-- a split
+pub split_no_value : (ns : List Node) (v : Values) (K : List Term) (t : Term) (x y : ℕ) → ValueAt ns v t None → DoneBy ns v K (splits t x y) None
+split_no_value ns v K t x y h w r (halved m) = none_some (sym h ∙ means_valued m)
+
+pub split_no_pair : (ns : List Node) (v : Values) (K : List Term) (t : Term) (x y : ℕ) (p : NodeNo) → ValueAt ns v t (Some p) → PairAt ns p.0 None → DoneBy ns v K (splits t x y) None
+split_no_pair ns v K t x y p h n w r (halved {a = a} {b = b} m) = n a b (some-injective (term ns p.0) (pair a b) (sym h.1 ∙ means_valued m))
+
+pub split_yes : (ns : List Node) (v : Values) (K : List Term) (t : Term) (x y : Variable) (p a b : NodeNo) → x.0 < 64 → y.0 < 64 → ValueAt ns v t (Some p) → PairAt ns p.0 (Some (a, b)) → DoneBy ns v K (splits t x.0 y.0) (Some (Split x a y b))
+split_yes ns v K t x y p a b l m h s =
+    ((s.0, l, s.1, m), halved (valued_means v t (pair (term ns a.0) (term ns b.0)) (h.1 ∙ ap some s.2)))
+
+-- a same
+pub same_no_first : (ns : List Node) (v : Values) (K : List Term) (t u : Term) → ValueAt ns v t None → DoneBy ns v K (same t u) None
+same_no_first ns v K t u h w r (agreed m n) = none_some (sym h ∙ means_valued m)
+
+pub same_no_second : (ns : List Node) (v : Values) (K : List Term) (t u : Term) → ValueAt ns v u None → DoneBy ns v K (same t u) None
+same_no_second ns v K t u h w r (agreed m n) = none_some (sym h ∙ means_valued n)
+
+pub same_other : (ns : List Node) (v : Values) (K : List Term) (t u : Term) (p q : NodeNo) → ValueAt ns v t (Some p) → ValueAt ns v u (Some q) → ¬ (term ns p.0 ≡ term ns q.0) → DoneBy ns v K (same t u) None
+same_other ns v K t u p q h g n w r (agreed {M = M} m d) =
+    n (some-injective (term ns p.0) M (sym h.1 ∙ means_valued m) ∙ sym (some-injective (term ns q.0) M (sym g.1 ∙ means_valued d)))
+
+pub same_yes : (ns : List Node) (v : Values) (K : List Term) (t u : Term) (p q : NodeNo) → ValueAt ns v t (Some p) → ValueAt ns v u (Some q) → term ns p.0 ≡ term ns q.0 → DoneBy ns v K (same t u) (Some Agree)
+same_yes ns v K t u p q h g e = (tt, agreed (valued_means v t (term ns p.0) h.1) (valued_means v u (term ns p.0) (g.1 ∙ ap some (sym e))))

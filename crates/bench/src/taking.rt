@@ -2,13 +2,14 @@
 ghost use Rattle.std.specs.Prelude.{◌≡◌, ◌<◌, length, Some};
 ghost use Rattle.terms.specs.Terms.{var, pair, seal};
 ghost use Rattle.terms.specs.Nodes.{node as node_at, term};
-ghost use Rattle.protocol.specs.Strands.{output, step_of};
+ghost use Rattle.protocol.specs.Strands.{output, opens, splits, same, step_of};
 ghost use Rattle.protocol.specs.Lawful.{OpenPattern, SplitPattern, StepLaw};
 ghost use Rattle.runs.specs.Runs.{messages};
 ghost use Rattle.bench.specs.Effects.{DoneBy, TakenBy, ValueAt};
 ghost use Rattle.bench.specs.Tables.{sheet_in, nodes_of, situation};
 
 use crate::effect::Effect;
+use crate::shapes::{pair_at, seal_at};
 use crate::tables::Tables;
 use playing::StepFault;
 use protocol::{Action, Direction, Step};
@@ -39,5 +40,53 @@ impl Tables {
             label,
             node,
         }))
+    }
+
+    // An open: its subject's value is sealed under the key's value.
+    fn opening(&self, subject: NodeNo, variable: Variable, key: NodeNo) -> Option<Effect>
+        requires subject_held { subject.0 < length (sheet_in self.now).nodes }
+        requires key_held { key.0 < length (sheet_in self.now).nodes }
+        requires variable_held { variable.0 < 64 }
+        ensures { let st = (situation self.now).state in let ss = (sheet_in self.now).nodes in DoneBy (nodes_of self.now) st.value (messages st.run) (opens (term ss subject.0) variable.0 (term ss key.0)) result }
+    {
+        let subject = self.value_of(subject)?;
+        let key = self.value_of(key)?;
+        let (body, lock) = seal_at(&self.pages, subject)?;
+        if !self.pages.same(lock, key) {
+            return None;
+        }
+        Some(Effect::Open { variable, body })
+    }
+
+    // A split: its subject's value is a pair.
+    fn splitting(&self, subject: NodeNo, left: Variable, right: Variable) -> Option<Effect>
+        requires subject_held { subject.0 < length (sheet_in self.now).nodes }
+        requires left_held { left.0 < 64 }
+        requires right_held { right.0 < 64 }
+        ensures { let st = (situation self.now).state in DoneBy (nodes_of self.now) st.value (messages st.run) (splits (term (sheet_in self.now).nodes subject.0) left.0 right.0) result }
+    {
+        let subject = self.value_of(subject)?;
+        let (left_half, right_half) = pair_at(&self.pages, subject)?;
+        Some(Effect::Split {
+            left,
+            left_half,
+            right,
+            right_half,
+        })
+    }
+
+    // A same: two values are one.
+    #[tactic(auto, using(crate::proofs::Taken::same_other))]
+    fn agreeing(&self, left: NodeNo, right: NodeNo) -> Option<Effect>
+        requires left_held { left.0 < length (sheet_in self.now).nodes }
+        requires right_held { right.0 < length (sheet_in self.now).nodes }
+        ensures { let st = (situation self.now).state in let ss = (sheet_in self.now).nodes in DoneBy (nodes_of self.now) st.value (messages st.run) (same (term ss left.0) (term ss right.0)) result }
+    {
+        let left = self.value_of(left)?;
+        let right = self.value_of(right)?;
+        if !self.pages.same(left, right) {
+            return None;
+        }
+        Some(Effect::Agree)
     }
 }
