@@ -5,3 +5,4 @@ pub mod Written
 pub mod Growth
 pub mod Taken
 pub mod Shapely
+pub mod Patterned

@@ -1,10 +1,11 @@
 -- What a step does, by the places of the terms that it binds or adds to the run.
 use Rattle.std.specs.Prelude.{◌≡◌, ℕ, ◌<◌, List, [], ◌∷◌, length, Some, None, Option, Ok, Err, Result}
 use Rattle.std.proofs.Math.Option.{none, some}
-use Rattle.terms.specs.Terms.{Term, pair, seal}
+use Rattle.terms.specs.Terms.{Term, var, pair, seal}
 use Rattle.terms.specs.Nodes.{term}
 use Rattle.terms.specs.declared.node.Node.{Node}
 use Rattle.terms.specs.declared.number.NodeNo.{NodeNo}
+use Rattle.terms.specs.declared.number.Variable.{Variable}
 use Rattle.protocol.specs.Strands.{TermStep}
 use Rattle.runs.specs.Protocols.{TermAction}
 use Rattle.runs.specs.Runs.{Values, Does, bind}
@@ -69,3 +70,13 @@ PairAt ns i (Some (p, q)) = (p.0 < length ns) × (q.0 < length ns) × (term ns i
 abbrev pub SealAt : List Node → ℕ → Option (NodeNo × NodeNo) → Type 0
 SealAt ns i None = (b k : Term) → ¬ (term ns i ≡ seal b k)
 SealAt ns i (Some (p, q)) = (p.0 < length ns) × (q.0 < length ns) × (term ns i ≡ seal (term ns p.0) (term ns q.0))
+
+-- the variable and the key of an open's pattern, which every lawful sheet has
+abbrev pub OpenedBy : List Node → ℕ → Option (Variable × NodeNo) → Type 0
+OpenedBy ss i None = ⊥
+OpenedBy ss i (Some (x, k)) = (x.0 < 64) × (k.0 < length ss) × (term ss i ≡ seal (var x.0) (term ss k.0))
+
+-- the two variables of a split's pattern
+abbrev pub SplitBy : List Node → ℕ → Option (Variable × Variable) → Type 0
+SplitBy ss i None = ⊥
+SplitBy ss i (Some (x, y)) = (x.0 < 64) × (y.0 < 64) × (term ss i ≡ pair (var x.0) (var y.0))

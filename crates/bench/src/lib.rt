@@ -3,6 +3,7 @@
 
 mod effect;
 mod opening;
+mod patterns;
 mod placing;
 mod shapes;
 mod standing;
