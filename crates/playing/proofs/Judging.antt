@@ -122,10 +122,10 @@ abbrev or_name : Option Term → Term
 or_name none = name 0
 or_name (some M) = M
 
-abbrev total : Values → ℕ → Term
+abbrev pub total : Values → ℕ → Term
 total w x = or_name (w x)
 
-total_within : (w : Values) → Within w (total w)
+pub total_within : (w : Values) → Within w (total w)
 total_within w x M e = ap or_name e
 
 pub fit_finds : FitFinds

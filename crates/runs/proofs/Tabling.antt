@@ -15,9 +15,9 @@ use Rattle.protocol.specs.Strands.{TermStep, first, second, variable, step_of, A
 use Rattle.protocol.specs.Lawful.{Content, Sound, IsAtom, IsVar, Apart, NodeLaw, OpenPattern, SplitPattern, StepLaw, EarlierLaw, PropertyLaw, PropertyIn}
 use Rattle.lifting.proofs.Lists.{none_some}
 use Rattle.lifting.proofs.Instances.{vars_at}
-use Rattle.runs.specs.Protocols.{SplitsApart, WasBound, EarlierInLater, PlainKey, Plain, Written, PlainAction, LawfulProtocol}
+use Rattle.runs.specs.Protocols.{SplitsApart, WasBound, EarlierInLater, PlainKey, Plain, Written, PlainAction, Protocol, LawfulProtocol}
 use Rattle.runs.specs.Sizes.{one_side, other_side, ProtocolSized}
-use Rattle.runs.specs.Tables.{action_of, earlier_of, protocol_of, TablesLawful, TablesSized}
+use Rattle.runs.specs.Tables.{action_of, earlier_of, protocol_of, property_or_any, described, TablesLawful, TablesSized, DescribedLawful}
 use Rattle.runs.proofs.Values.{uses_map}
 
 -- a place of a mapped list is a place of the list
@@ -212,3 +212,12 @@ tables_lawful C p law e = lawful_tables C law.sound p e
 
 pub tables_sized : TablesSized
 tables_sized C p law e = sized_tables C law.sound p e
+
+-- tables with a property describe the protocol with that property
+pub described_is : (C : Content) (p : Property) → C.property ≡ Some p → described C ≡ protocol_of C p
+described_is C p e = ap (λ (o : Option Property). protocol_of C (property_or_any o)) e
+
+pub described_lawful : DescribedLawful
+described_lawful C law =
+    let h = law.has_property in
+    subst (λ (S : Protocol). LawfulProtocol S) (sym (described_is C h.0 h.1)) (tables_lawful C h.0 law h.1)

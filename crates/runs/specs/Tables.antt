@@ -4,8 +4,8 @@ use Rattle.std.proofs.Math.Option.{Option as Maybe, none, some}
 use Rattle.terms.specs.Nodes.{term}
 use Rattle.terms.specs.declared.node.Node.{Node}
 use Rattle.protocol.specs.declared.step.Action.{Action}
+use Rattle.protocol.specs.declared.step.Direction.TheVariants.{Output}
 use Rattle.protocol.specs.declared.step.Property.{Property}
-use Rattle.protocol.specs.declared.step.Direction.TheVariants.{Input}
 use Rattle.protocol.specs.Strands.{step_of}
 use Rattle.protocol.specs.Lawful.{Content, Lawful}
 use Rattle.runs.specs.Protocols.{TermAction, Protocol, LawfulProtocol}
@@ -29,14 +29,14 @@ protocol_of C p =
       later = action_of C.nodes p.later;
     }
 
--- the property of a content; where there is none, one that no lawful content is asked for
-abbrev pub property_of : Option Property → Property
-property_of (Some p) = p
-property_of None = record { earlier = None; later = record { direction = Input; label = record { 0 = 0 }; node = record { 0 = 0 } } }
+-- the property that the tables have, or any at all where they have none
+abbrev pub property_or_any : Option Property → Property
+property_or_any None = record { earlier = None; later = record { direction = Output; label = record { 0 = 0 }; node = record { 0 = 0 } } }
+property_or_any (Some p) = p
 
--- the protocol that a content with a property describes
+-- the protocol that tables with a property describe
 abbrev pub described : Content → Protocol
-described C = protocol_of C (property_of C.property)
+described C = protocol_of C (property_or_any C.property)
 
 -- the tables of a lawful sheet make a lawful protocol
 abbrev pub TablesLawful : Type 0
@@ -45,3 +45,7 @@ TablesLawful = (C : Content) (p : Property) → Lawful C → C.property ≡ Some
 -- whose variables are among the first 64
 abbrev pub TablesSized : Type 0
 TablesSized = (C : Content) (p : Property) → Lawful C → C.property ≡ Some p → ProtocolSized 64 (protocol_of C p)
+
+-- so what a lawful sheet describes is a lawful protocol
+abbrev pub DescribedLawful : Type 0
+DescribedLawful = (C : Content) → Lawful C → LawfulProtocol (described C)

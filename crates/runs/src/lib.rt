@@ -10,7 +10,7 @@ ghost use Rattle.runs.specs.Last.{BreaksAtLast, NothingBreaksNothing};
 ghost use Rattle.runs.specs.Tries.{TriesSuffice};
 ghost use Rattle.runs.specs.Told.{BrokenTold, FedTold, SpentTold};
 ghost use Rattle.runs.specs.Needed.{ApartNeeded};
-ghost use Rattle.runs.specs.Tables.{TablesLawful, TablesSized};
+ghost use Rattle.runs.specs.Tables.{TablesLawful, TablesSized, DescribedLawful};
 ghost use Rattle.runs.specs.Law.{LawDecided, LawTold};
 
 // A run of a schedule is a simultaneous solution of its steps.
@@ -82,6 +82,7 @@ pub fn needed_stands()
 pub fn tables_are_lawful()
     ensures lawful { TablesLawful }
     ensures sized { TablesSized }
+    ensures described { DescribedLawful }
 {}
 
 // Whether tables are lawful is decided, so a sheet's law can be taken out of its type.
