@@ -30,11 +30,11 @@ abbrev Found : Values → Term → Term → Values → Type 0
 Found v t M w = Keeps v w × Means w t M × Only v t w
 
 -- a test that found something
-tested : (b : Bool) (v w : Values) → cond b (some v) none ≡ some w → T b × (v ≡ w)
+pub tested : (b : Bool) (v w : Values) → cond b (some v) none ≡ some w → T b × (v ≡ w)
 tested true v w e = (tt, some-injective v w e)
 tested false v w e = absurd (none_some w e)
 
-onto_some : (o : Option Values) (f : Values → Option Values) (w : Values) → onto o f ≡ some w → (u : Values) × (o ≡ some u) × (f u ≡ some w)
+pub onto_some : (o : Option Values) (f : Values → Option Values) (w : Values) → onto o f ≡ some w → (u : Values) × (o ≡ some u) × (f u ≡ some w)
 onto_some none f w e = absurd (none_some w e)
 onto_some (some u) f w e = (u, refl, e)
 
@@ -96,7 +96,7 @@ fit_found (seal b k) (seal B K) v w e =
     let q = fit_found k K h.0 w h.2 in
     (keeps_both p.0 q.0, a_seal (means_keeps q.0 p.1) q.1, only_both b k p.2 q.2)
 
-same_true : (s t : Term) → s ≡ t → same? s t ≡ true
+pub same_true : (s t : Term) → s ≡ t → same? s t ≡ true
 same_true s t e = is_true (same? s t) (eq→same s t e)
 
 give_fits : (o : Option Term) (v : Values) (x : ℕ) (ρ : ℕ → Term) → v x ≡ o → Within v ρ → (w : Values) × (give o v x (ρ x) ≡ some w) × Within w ρ

@@ -48,7 +48,7 @@ abbrev Small : Term → Type 0
 Small t = Vars (λ x. x < 64) t
 
 module _ (C : Content) (law : Sound C) where
-  unfolded : (i : ℕ) → i < length C.nodes → term C.nodes i ≡ says (term C.nodes) (node C.nodes i)
+  pub unfolded : (i : ℕ) → i < length C.nodes → term C.nodes i ≡ says (term C.nodes) (node C.nodes i)
   unfolded i h = unfolds C.nodes (λ j l. node_below C j (node C.nodes j) (law.nodes_stand j l)) i h
 
   reads : (i : ℕ) → i < length C.nodes → (n : Node) → node C.nodes i ≡ n → term C.nodes i ≡ says (term C.nodes) n
@@ -172,7 +172,7 @@ module _ (C : Content) (law : Sound C) where
   earlier_plain None b w = tt
   earlier_plain (Some a) b w = plain a.node.0 w.0.1
 
-  property_law : (p : Property) → C.property ≡ Some p → PropertyLaw C p
+  pub property_law : (p : Property) → C.property ≡ Some p → PropertyLaw C p
   property_law p e = (subst (λ (o : Option Property). PropertyIn C o) e law.property_stands).1
 
   lawful_tables : (p : Property) → C.property ≡ Some p → LawfulProtocol (protocol_of C p)

@@ -1,0 +1,5 @@
+pub mod Giving
+pub mod Settling
+pub mod Finding
+pub mod Reading
+pub mod Breaking
