@@ -1,0 +1,4 @@
+// What all cases are written with, and a module for each subject.
+mod order;
+mod shapes;
+mod support;
