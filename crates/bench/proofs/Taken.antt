@@ -1,12 +1,13 @@
 -- Whether a step can be taken, told by the places of values.
-use Rattle.std.proofs.Common.{◌≡◌, ℕ, ◌<◌, List, [], ◌∷◌, length, Some, None, Option, refl, sym, ap, subst, ◌∙◌, arith, slice_index_or}
+use Rattle.std.proofs.Common.{◌≡◌, ℕ, ◌<◌, List, [], ◌∷◌, length, Some, None, Option, Result, refl, sym, ap, subst, ◌∙◌, arith, slice_index_or}
 use mathlib.Core.Option.{Option as Maybe, none, some, some-injective}
 use Rattle.terms.specs.Terms.{Term, pair, seal, Message}
 use Rattle.terms.specs.Nodes.{term}
 use Rattle.terms.specs.declared.node.Node.{Node}
 use Rattle.terms.specs.declared.number.NodeNo.{NodeNo}
 use Rattle.terms.specs.declared.number.Variable.{Variable}
-use Rattle.protocol.specs.Strands.{TermStep, output, opens, splits, same, second}
+use Rattle.protocol.specs.Strands.{TermStep, output, opens, splits, same, first, second, variable, step_of}
+use Rattle.protocol.specs.declared.step.Step.TheVariants as step
 use Rattle.protocol.specs.declared.step.Action.{Action}
 use Rattle.protocol.specs.declared.step.Direction.{Direction}
 use Rattle.protocol.specs.declared.step.Direction.TheVariants.{Output}
@@ -14,8 +15,13 @@ use Rattle.runs.specs.Protocols.{TermAction}
 use Rattle.runs.specs.Runs.{Values, Means, Does, put_out, opened, halved, agreed}
 use Rattle.runs.specs.Valued.{valued}
 use Rattle.runs.proofs.Valuing.{means_valued, valued_means}
+use Rattle.std.specs.Option.{ok_or}
+use Rattle.playing.specs.Calls.{IsInput}
+use Rattle.playing.specs.declared.faults.StepFault.{StepFault}
+use Rattle.playing.specs.declared.faults.StepFault.TheVariants.{Stuck}
+use Rattle.bench.specs.declared.effect.Effect.{Effect}
 use Rattle.bench.specs.Places.{told, value_in, KeptIn, Placed}
-use Rattle.bench.specs.Effects.{ValueAt, DoneBy, PairAt, SealAt}
+use Rattle.bench.specs.Effects.{ValueAt, DoneBy, TakenBy, PairAt, SealAt, OpenedBy, SplitBy}
 use Rattle.bench.specs.Tables.{sheet_in, nodes_of, situation}
 use Rattle.bench.specs.declared.tables.Tables.{Tables}
 use Rattle.bench.specs.declared.effect.Effect.TheVariants.{Send, Open, Split, Agree}
@@ -85,3 +91,14 @@ same_other ns v K t u p q h g n w r (agreed {M = M} m d) =
 
 pub same_yes : (ns : List Node) (v : Values) (K : List Term) (t u : Term) (p q : NodeNo) → ValueAt ns v t (Some p) → ValueAt ns v u (Some q) → term ns p.0 ≡ term ns q.0 → DoneBy ns v K (same t u) (Some Agree)
 same_yes ns v K t u p q h g e = (tt, agreed (valued_means v t (term ns p.0) h.1) (valued_means v u (term ns p.0) (g.1 ∙ ap some (sym e))))
+
+-- a step that is no input is taken, or the strand is stuck
+pub taken : (ns : List Node) (v : Values) (K : List Term) (p q : TermStep) (o : Option Effect) (r : Result Effect StepFault) → q ≡ p → ¬ IsInput p → r ≡ ok_or o Stuck → DoneBy ns v K p o → TakenBy ns v K q r
+taken ns v K p q None r f i e d = rw (f, e) (i, d)
+taken ns v K p q (Some x) r f i e d = rw (f, e) (i, d.0, d.1)
+
+pub opens_by : (ss : List Node) (s p : NodeNo) (xk : Variable × NodeNo) → OpenedBy ss p.0 (Some xk) → step_of ss (step.Open s p) ≡ opens (term ss s.0) xk.0.0 (term ss xk.1.0)
+opens_by ss s p (x, k) h = ap (λ (t : Term). opens (term ss s.0) (variable (first t)) (second t)) h.2
+
+pub splits_by : (ss : List Node) (s p : NodeNo) (xy : Variable × Variable) → SplitBy ss p.0 (Some xy) → step_of ss (step.Split s p) ≡ splits (term ss s.0) xy.0.0 xy.1.0
+splits_by ss s p (x, y) h = ap (λ (t : Term). splits (term ss s.0) (variable (first t)) (variable (second t))) h.2

@@ -9,6 +9,7 @@ ghost use Rattle.bench.specs.Effects.{DoneBy, TakenBy, ValueAt};
 ghost use Rattle.bench.specs.Tables.{sheet_in, nodes_of, situation};
 
 use crate::effect::Effect;
+use crate::patterns::{open_pattern, split_pattern};
 use crate::shapes::{pair_at, seal_at};
 use crate::tables::Tables;
 use playing::StepFault;
@@ -88,5 +89,25 @@ impl Tables {
             return None;
         }
         Some(Effect::Agree)
+    }
+
+    // What taking a step does that is no input.
+    pub(crate) fn effect(&self, step: Step) -> Result<Effect, StepFault>
+        requires { StepLaw (sheet_in self.now) step }
+        ensures { let st = (situation self.now).state in TakenBy (nodes_of self.now) st.value (messages st.run) (step_of (sheet_in self.now).nodes step) result }
+    {
+        match step {
+            Step::Input { .. } => Err(StepFault::WrongCall),
+            Step::Output { label, node } => self.sending(label, node).ok_or(StepFault::Stuck),
+            Step::Open { subject, pattern } => {
+                let (variable, key) = open_pattern(&self.sheet, pattern).unwrap();
+                self.opening(subject, variable, key).ok_or(StepFault::Stuck)
+            }
+            Step::Split { subject, pattern } => {
+                let (left, right) = split_pattern(&self.sheet, pattern).unwrap();
+                self.splitting(subject, left, right).ok_or(StepFault::Stuck)
+            }
+            Step::Same { left, right } => self.agreeing(left, right).ok_or(StepFault::Stuck),
+        }
     }
 }
