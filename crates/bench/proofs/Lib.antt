@@ -6,3 +6,4 @@ pub mod Growth
 pub mod Taken
 pub mod Shapely
 pub mod Patterned
+pub mod Bound

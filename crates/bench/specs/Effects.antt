@@ -1,17 +1,18 @@
 -- What a step does, by the places of the terms that it binds or adds to the run.
-use Rattle.std.specs.Prelude.{◌≡◌, ℕ, ◌<◌, List, [], ◌∷◌, length, Some, None, Option, Ok, Err, Result}
+use Rattle.std.specs.Prelude.{◌≡◌, ℕ, ◌<◌, List, [], ◌∷◌, ◌++◌, length, Some, None, Option, Ok, Err, Result}
 use Rattle.std.proofs.Math.Option.{none, some}
 use Rattle.terms.specs.Terms.{Term, var, pair, seal}
 use Rattle.terms.specs.Nodes.{term}
 use Rattle.terms.specs.declared.node.Node.{Node}
 use Rattle.terms.specs.declared.number.NodeNo.{NodeNo}
 use Rattle.terms.specs.declared.number.Variable.{Variable}
-use Rattle.protocol.specs.Strands.{TermStep}
-use Rattle.runs.specs.Protocols.{TermAction}
-use Rattle.runs.specs.Runs.{Values, Does, bind}
+use Rattle.protocol.specs.Strands.{TermStep, At}
+use Rattle.protocol.specs.declared.step.Action.{Action}
+use Rattle.runs.specs.Protocols.{TermAction, Protocol}
+use Rattle.runs.specs.Runs.{Values, Does, State, bind, onward, messages}
 use Rattle.runs.specs.Tables.{action_of}
 use Rattle.runs.specs.Valued.{valued}
-use Rattle.playing.specs.Calls.{IsInput}
+use Rattle.playing.specs.Calls.{IsInput, Situation}
 use Rattle.playing.specs.declared.faults.StepFault.{StepFault}
 use Rattle.playing.specs.declared.faults.StepFault.TheVariants.{NoStrand, Finished, WrongCall, NotWritten, NotDerivable, Stuck}
 use Rattle.bench.specs.declared.effect.Effect.{Effect}
@@ -80,3 +81,23 @@ OpenedBy ss i (Some (x, k)) = (x.0 < 64) × (k.0 < length ss) × (term ss i ≡ 
 abbrev pub SplitBy : List Node → ℕ → Option (Variable × Variable) → Type 0
 SplitBy ss i None = ⊥
 SplitBy ss i (Some (x, y)) = (x.0 < 64) × (y.0 < 64) × (term ss i ≡ pair (var x.0) (var y.0))
+
+-- strand k can take its next step so
+abbrev pub Performs : Protocol → List Node → State → ℕ → Effect → Type 0
+Performs S ns st k e = (p : TermStep) × At S.strands k (st.next k) p × Does st.value (messages st.run) p (bound ns st.value e) (added ns e)
+
+-- and where the run stands then
+abbrev pub performed : List Node → Situation → ℕ → Effect → Situation
+performed ns u k e =
+    record {
+      state = record { next = onward u.state.next k; value = bound ns u.state.value e; run = u.state.run ++ added ns e };
+      written = u.written;
+    }
+
+-- the action that it adds, by its place
+abbrev pub acted : Effect → List Action
+acted (Receive a x) = a ∷ []
+acted (Send a) = a ∷ []
+acted (Open x p) = []
+acted (Split x p y q) = []
+acted Agree = []

@@ -1,9 +1,12 @@
 // Where a strand stands.
-ghost use Rattle.std.specs.Prelude.{◌≡◌, ◌+◌};
+ghost use Rattle.std.specs.Prelude.{◌≡◌, ◌+◌, ◌<◌, length, slice_index_or};
 ghost use Rattle.protocol.specs.Strands.{steps_of};
+ghost use Rattle.runs.specs.Runs.{onward};
+ghost use Rattle.bench.specs.Places.{next_in, strands_in};
 ghost use Rattle.bench.specs.Steps.{StepAt};
 
 use protocol::{Step, Strand};
+use terms::StrandNo;
 
 #[derive(Clone, Copy)]
 pub(crate) struct Standing {
@@ -20,4 +23,22 @@ impl Standing {
     {
         self.strand.steps().get(self.next).copied()
     }
+
+    fn advance(&mut self)
+        requires { self.old.next < 65535 }
+        ensures strand { self.new.strand ≡ self.old.strand }
+        ensures next { self.new.next ≡ self.old.next + 1 }
+    {
+        self.next += 1;
+    }
+}
+
+// One strand goes one step further.
+pub(crate) fn advance(standings: &mut [Standing], strand: StrandNo)
+    requires held { strand.0 < length standings.old }
+    requires short { next_in standings.old strand.0 < 65535 }
+    ensures strands { strands_in standings.new ≡ strands_in standings.old }
+    ensures next { next_in standings.new ≡ onward (next_in standings.old) strand.0 }
+{
+    standings[strand.0 as usize].advance();
 }

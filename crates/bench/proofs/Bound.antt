@@ -1,0 +1,77 @@
+-- What taking a step leaves as it was, and what it makes true.
+use Rattle.std.proofs.Common.{◌≡◌, ℕ, ◌<◌, ◌≤◌, ◌+◌, List, [], ◌∷◌, ◌++◌, map, length, get_or, slice_index_or, slice_set, Some, None, Option, refl, sym, ap, ap₂, subst, ◌∙◌, arith}
+use Rattle.std.proofs.lemmas.List.{length-map, get_or-set_same, get_or-set_other, get_or-map, map_push}
+use Rattle.std.proofs.Math.Logic.{∥∥₁_map, ∥∥₁_elim}
+use mathlib.Core.Option.{Option as Maybe, none, some, is_set}
+use mathlib.Core.Path.{fun_ext}
+use native.Mathlib.Decide.{ℕ_discrete}
+use Rattle.terms.specs.Terms.{Term}
+use Rattle.terms.specs.Nodes.{term}
+use Rattle.terms.specs.declared.node.Node.{Node}
+use Rattle.terms.specs.declared.number.NodeNo.{NodeNo}
+use Rattle.terms.proofs.Equality.{term_set}
+use Rattle.protocol.specs.Strands.{TermStep, At, Binds}
+use Rattle.protocol.specs.Lawful.{Content, Lawful}
+use Rattle.protocol.specs.declared.step.Action.{Action}
+use Rattle.runs.specs.Protocols.{TermAction, Protocol, LawfulProtocol}
+use Rattle.runs.specs.Runs.{Values, Means, a_name, an_env, a_value, a_pair, a_seal, State, Does, bind, messages, moved, Moves}
+use Rattle.runs.specs.Tables.{action_of, described}
+use Rattle.runs.specs.Valued.{valued}
+use Rattle.runs.proofs.Values.{bind_here, bind_there, does_keeps}
+use Rattle.runs.proofs.Decisions.{binds?}
+use Rattle.runs.proofs.Valuing.{means_valued, valued_means, next_fresh}
+use Rattle.playing.specs.Calls.{Situation, Reached}
+use Rattle.playing.proofs.Running.{moves_good}
+use Rattle.bench.specs.Places.{told, value_in, KeptIn, Placed, PlacedRight}
+use Rattle.bench.specs.Effects.{bound, added, EffectHeld, Performs, performed}
+
+-- a value in the table is bound
+pub value_set : (ns : List Node) (vs : List (Option NodeNo)) (x : ℕ) (p : NodeNo) → x < length vs → value_in ns (slice_set vs x (Some p)) ≡ bind (value_in ns vs) x (term ns p.0)
+value_set ns vs x p l = fun_ext at
+  where
+    at : (y : ℕ) → value_in ns (slice_set vs x (Some p)) y ≡ bind (value_in ns vs) x (term ns p.0) y
+    at y =
+        elim (ℕ_discrete y x) [
+          | yes e ↦ rw e (ap (told ns) (get_or-set_same vs x (Some p) None l) ∙ sym (bind_here (value_in ns vs) x (term ns p.0)))
+          | no n ↦ ap (told ns) (get_or-set_other vs x y (Some p) None n) ∙ sym (bind_there (value_in ns vs) x (term ns p.0) y n)
+        ]
+
+some_is : {p q : NodeNo} → Some p ≡ Some q → p ≡ q
+some_is e = grind arith
+
+pub kept_set : (ns : List Node) (vs : List (Option NodeNo)) (x : ℕ) (p : NodeNo) → x < length vs → p.0 < length ns → KeptIn ns vs → KeptIn ns (slice_set vs x (Some p))
+kept_set ns vs x p l h k y q e =
+    elim (ℕ_discrete y x) [
+      | yes f ↦ subst (λ (z : NodeNo). z.0 < length ns) (some_is (sym (get_or-set_same vs x (Some p) None l) ∙ (ap (λ (i : ℕ). slice_index_or (slice_set vs x (Some p)) i None) (sym f) ∙ e))) h
+      | no n ↦ k y q (sym (get_or-set_other vs x y (Some p) None n) ∙ e)
+    ]
+
+-- more values make no term's value another
+abbrev pub Stays : Values → Values → Type 0
+Stays v w = (x : ℕ) (M : Term) → v x ≡ some M → w x ≡ some M
+
+means_more : {v w : Values} → Stays v w → {t M : Term} → Means v t M → Means w t M
+means_more s (a_name n) = a_name n
+means_more s (an_env n) = an_env n
+means_more s (a_value {x} {M} e) = a_value (s x M e)
+means_more s (a_pair a b) = a_pair (means_more s a) (means_more s b)
+means_more s (a_seal b k) = a_seal (means_more s b) (means_more s k)
+
+pub valued_more : (v w : Values) → Stays v w → (t M : Term) → valued v t ≡ some M → valued w t ≡ some M
+valued_more v w s t M e = means_valued (means_more s (valued_means v t M e))
+
+none_is : {M : Term} → ◌≡◌ {A = Maybe Term} none (some M) → ⊥
+none_is e = grind arith
+
+-- a step binds only variables without a value
+pub step_stays : (S : Protocol) (u : Situation) (k : ℕ) (p : TermStep) (w : Values) (r : List TermAction) → LawfulProtocol S → ∥ Reached S u ∥₁ → At S.strands k (u.state.next k) p → Does u.state.value (messages u.state.run) p w r → Stays u.state.value w
+step_stays S u k p w r law h a d x M e =
+    ∥∥₁_elim h (is_set term_set _ _)
+    (λ g.
+      elim (binds? x p) [
+        | yes b ↦ absurd (none_is (sym (next_fresh S law g.0.0 u.state g.0.1 k p a x b) ∙ e))
+        | no n ↦ does_keeps x d n ∙ e
+      ])
+
+pub right_after : (ns ss : List Node) (vs ws ps : List (Option NodeNo)) → Stays (value_in ns vs) (value_in ns ws) → Placed ns ss vs ps → PlacedRight ns ss ws ps
+right_after ns ss vs ws ps s h i p l e = valued_more (value_in ns vs) (value_in ns ws) s (term ss i) (term ns p.0) (sym (h i l) ∙ ap (told ns) e)
