@@ -23,7 +23,9 @@ use Rattle.runs.proofs.Valuing.{means_valued, valued_means, next_fresh}
 use Rattle.playing.specs.Calls.{Situation, Reached}
 use Rattle.playing.proofs.Running.{moves_good}
 use Rattle.bench.specs.Places.{told, value_in, KeptIn, Placed, PlacedRight}
-use Rattle.bench.specs.Effects.{bound, added, EffectHeld, Performs, performed}
+use Rattle.bench.specs.declared.effect.Effect.{Effect}
+use Rattle.bench.specs.declared.effect.Effect.TheVariants.{Receive, Send, Open, Split, Agree}
+use Rattle.bench.specs.Effects.{bound, added, EffectHeld, Numbered, Performs, performed}
 
 -- a value in the table is bound
 pub value_set : (ns : List Node) (vs : List (Option NodeNo)) (x : ℕ) (p : NodeNo) → x < length vs → value_in ns (slice_set vs x (Some p)) ≡ bind (value_in ns vs) x (term ns p.0)
@@ -75,3 +77,10 @@ step_stays S u k p w r law h a d x M e =
 
 pub right_after : (ns ss : List Node) (vs ws ps : List (Option NodeNo)) → Stays (value_in ns vs) (value_in ns ws) → Placed ns ss vs ps → PlacedRight ns ss ws ps
 right_after ns ss vs ws ps s h i p l e = valued_more (value_in ns vs) (value_in ns ws) s (term ss i) (term ns p.0) (sym (h i l) ∙ ap (told ns) e)
+
+pub held_numbered : (ns : List Node) (e : Effect) → EffectHeld ns e → Numbered e
+held_numbered ns (Receive a x) h = h.1
+held_numbered ns (Send a) h = tt
+held_numbered ns (Open x p) h = h.1
+held_numbered ns (Split x p y q) h = (h.1, h.3)
+held_numbered ns Agree h = tt

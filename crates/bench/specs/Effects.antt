@@ -101,3 +101,11 @@ acted (Send a) = a ∷ []
 acted (Open x p) = []
 acted (Split x p y q) = []
 acted Agree = []
+
+-- its variables are those of a table of values
+abbrev pub Numbered : Effect → Type 0
+Numbered (Receive a x) = x.0 < 64
+Numbered (Send a) = Unit {0}
+Numbered (Open x p) = x.0 < 64
+Numbered (Split x p y q) = (x.0 < 64) × (y.0 < 64)
+Numbered Agree = Unit {0}
