@@ -7,3 +7,4 @@ pub mod Taken
 pub mod Shapely
 pub mod Patterned
 pub mod Bound
+pub mod Performed

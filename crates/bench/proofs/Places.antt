@@ -19,7 +19,7 @@ use Rattle.notebook.specs.Calls.{Lawful, Put}
 use Rattle.notebook.specs.Limits.{most_nodes}
 use Rattle.notebook.specs.declared.faults.PutFault.{PutFault}
 use Rattle.notebook.specs.declared.faults.PutFault.TheVariants.{Unlawful, Full}
-use Rattle.protocol.specs.Lawful.{Content, Sound, NodeLaw}
+use Rattle.protocol.specs.Lawful.{Content, Sound, NodeLaw, Lawful as LawfulSheet}
 use Rattle.sheet.specs.Sheets.{content_of}
 use Rattle.sheet.specs.declared.sheet.Sheet.{Sheet}
 use Rattle.runs.proofs.Inspecting.{law_told}
@@ -198,3 +198,6 @@ sheet_plain s i l = let h = sound_of s in (plain_node (content_of s) h i (node (
 
 pub sheet_ordered : (s : Sheet) → Ordered (content_of s).nodes
 sheet_ordered s i l = let h = sound_of s in (plain_node (content_of s) h i (node (content_of s).nodes i) (h.nodes_stand i l) l).1
+
+pub sheet_law : (s : Sheet) → LawfulSheet (content_of s)
+sheet_law s = law_told (content_of s) s.lawful

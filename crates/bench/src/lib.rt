@@ -4,6 +4,7 @@
 mod effect;
 mod opening;
 mod patterns;
+mod performing;
 mod placing;
 mod shapes;
 mod standing;

@@ -34,11 +34,11 @@ impl Standing {
 }
 
 // One strand goes one step further.
-pub(crate) fn advance(standings: &mut [Standing], strand: StrandNo)
-    requires held { strand.0 < length standings.old }
-    requires short { next_in standings.old strand.0 < 65535 }
-    ensures strands { strands_in standings.new ≡ strands_in standings.old }
-    ensures next { next_in standings.new ≡ onward (next_in standings.old) strand.0 }
+pub(crate) fn advance(standings: &mut Vec<Standing>, strand: StrandNo)
+    requires held { strand.0 < length standings.old.items }
+    requires short { next_in standings.old.items strand.0 < 65535 }
+    ensures strands { strands_in standings.new.items ≡ strands_in standings.old.items }
+    ensures next { next_in standings.new.items ≡ onward (next_in standings.old.items) strand.0 }
 {
     standings[strand.0 as usize].advance();
 }
