@@ -2,3 +2,4 @@ pub mod Places
 pub mod Tables
 pub mod Steps
 pub mod Effects
+pub mod Benches

@@ -1,5 +1,5 @@
 // What a step does, worked out before anything is changed.
-ghost use Rattle.std.specs.Prelude.{◌≡◌, ◌<◌, ◌++◌, List, vec_len, vec_capacity};
+ghost use Rattle.std.specs.Prelude.{◌≡◌, List, [], ◌∷◌, MatchOption};
 
 use protocol::Action;
 use terms::{NodeNo, Variable};
@@ -53,15 +53,13 @@ impl Effect {
         }
     }
 
-    // Adds the action of the step to the run.
-    pub(crate) fn record(self, run: &mut Vec<Action>)
-        requires { vec_len run.old < vec_capacity run.old }
-        ensures run { run.new.items ≡ run.old.items ++ acted self }
-        ensures room { vec_capacity run.new ≡ vec_capacity run.old }
+    // The action that the run gets.
+    pub(crate) fn action(self) -> Option<Action>
+        ensures { MatchOption result (acted self ≡ []) (λ a. acted self ≡ a ∷ []) }
     {
         match self {
-            Effect::Receive { action, .. } | Effect::Send(action) => run.push_reserved(action),
-            Effect::Open { .. } | Effect::Split { .. } | Effect::Agree => {}
+            Effect::Receive { action, .. } | Effect::Send(action) => Some(action),
+            Effect::Open { .. } | Effect::Split { .. } | Effect::Agree => None,
         }
     }
 }

@@ -1,6 +1,7 @@
 // A bench plays runs of a sheet, call by call, over any notebook.
 #![tactic(auto)]
 
+mod copying;
 mod effect;
 mod opening;
 mod patterns;

@@ -1,5 +1,5 @@
 // A step is taken.
-ghost use Rattle.std.specs.Prelude.{◌≡◌, ◌++◌};
+ghost use Rattle.std.specs.Prelude.{◌≡◌, ◌<◌, ◌++◌, vec_len, vec_capacity};
 ghost use Rattle.bench.specs.Places.{Extends};
 ghost use Rattle.bench.specs.Effects.{EffectHeld, Performs, performed, acted};
 ghost use Rattle.bench.specs.Tables.{sheet_in, protocol_in, nodes_of, situation};
@@ -8,7 +8,19 @@ use crate::effect::Effect;
 use crate::placing::place_all;
 use crate::standing::advance;
 use crate::tables::Tables;
+use protocol::Action;
 use terms::StrandNo;
+
+// The run gets the action of a step.
+fn record(run: &mut Vec<Action>, effect: Effect)
+    requires { vec_len run.old < vec_capacity run.old }
+    ensures run { run.new.items ≡ run.old.items ++ acted effect }
+    ensures room { vec_capacity run.new ≡ vec_capacity run.old }
+{
+    if let Some(action) = effect.action() {
+        run.push_reserved(action);
+    }
+}
 
 impl Tables {
     // The strand goes on, its variables get their values, the run its action, and what can be told now is placed.
@@ -23,6 +35,6 @@ impl Tables {
         advance(&mut self.standings, strand);
         effect.bind(&mut self.values);
         place_all(&self.sheet, &self.values, &mut self.pages, &mut self.placed);
-        effect.record(&mut self.run);
+        record(&mut self.run, effect);
     }
 }

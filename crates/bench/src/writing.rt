@@ -1,5 +1,5 @@
 // What the caller writes.
-ghost use Rattle.std.specs.Prelude.{◌≡◌, length};
+ghost use Rattle.std.specs.Prelude.{◌≡◌, length, OnErr};
 ghost use Rattle.pages.specs.Pages.{nodes_on};
 ghost use Rattle.playing.specs.Calls.{Wrote};
 ghost use Rattle.bench.specs.Places.{Extends};
@@ -52,6 +52,7 @@ impl Tables {
         ensures sheet { sheet_in self.new ≡ sheet_in self.old }
         ensures grown { Extends (nodes_of self.old) (nodes_of self.new) }
         ensures run { self.new.run.items ≡ self.old.run.items }
+        ensures kept { OnErr result (nodes_of self.new ≡ nodes_of self.old) }
     {
         let node = self.turned(node).ok_or(WriteFault::Unlawful)?;
         let place = self.written.len();
