@@ -70,10 +70,10 @@ pub step_stays : (S : Protocol) (u : Situation) (k : ℕ) (p : TermStep) (w : Va
 step_stays S u k p w r law h a d x M e =
     ∥∥₁_elim h (is_set term_set _ _)
     (λ g.
-      elim (binds? x p) [
-        | yes b ↦ absurd (none_is (sym (next_fresh S law g.0.0 u.state g.0.1 k p a x b) ∙ e))
-        | no n ↦ does_keeps x d n ∙ e
-      ])
+    elim (binds? x p) [
+      | yes b ↦ absurd (none_is (sym (next_fresh S law g.0.0 u.state g.0.1 k p a x b) ∙ e))
+      | no n ↦ does_keeps x d n ∙ e
+    ])
 
 pub right_after : (ns ss : List Node) (vs ws ps : List (Option NodeNo)) → Stays (value_in ns vs) (value_in ns ws) → Placed ns ss vs ps → PlacedRight ns ss ws ps
 right_after ns ss vs ws ps s h i p l e = valued_more (value_in ns vs) (value_in ns ws) s (term ss i) (term ns p.0) (sym (h i l) ∙ ap (told ns) e)

@@ -8,3 +8,4 @@ pub mod Shapely
 pub mod Patterned
 pub mod Bound
 pub mod Performed
+pub mod Following

@@ -36,7 +36,7 @@ use Rattle.bench.proofs.Growth.{extends_run, extends_terms, extends_held, held_p
 pub sheet_lawful : (s : Sheet) → LawfulProtocol (described (content_of s))
 sheet_lawful s = described_lawful (content_of s) (law_told (content_of s) s.lawful)
 
-strand_of : (C : Content) (k : ℕ) → strand (described C) k ≡ map (step_of C.nodes) (slice_index_or C.strands k [])
+pub strand_of : (C : Content) (k : ℕ) → strand (described C) k ≡ map (step_of C.nodes) (slice_index_or C.strands k [])
 strand_of C k = get_or-map (map (step_of C.nodes)) C.strands k []
 
 strand_long : (C : Content) → Sound C → (k : ℕ) → length (strand (described C) k) ≤ 16
@@ -45,12 +45,13 @@ strand_long C s k = omega (arith, s.few_steps k, ap length (strand_of C k), leng
 -- where there is a next step, there is the strand, the step's number is small, and so is the run
 pub next_small : (C : Content) → Sound C → (u : Situation) (k : ℕ) (p : TermStep) → At (described C).strands k (u.state.next k) p → (k < length C.strands) × (u.state.next k < 16)
 next_small C s u k p a =
-    let l = place_below (strand (described C) k) (u.state.next k) p a in
-    (⊎_elim
-      (λ h. h)
-      (λ h. absurd (omega (arith, l, ap length (strand_of C k ∙ ap (map (step_of C.nodes)) (get_or_past C.strands k [] h)))))
-      (cases_lt k (length C.strands)),
-    omega (arith, l, strand_long C s k))
+    let l = place_below (strand (described C) k) (u.state.next k) p a in (
+      ⊎_elim
+          (λ h. h)
+          (λ h. absurd (omega (arith, l, ap length (strand_of C k ∙ ap (map (step_of C.nodes)) (get_or_past C.strands k [] h)))))
+          (cases_lt k (length C.strands)),
+      omega (arith, l, strand_long C s k),
+    )
 
 pub run_small : (C : Content) → Lawful C → (u : Situation) → ∥ Reached (described C) u ∥₁ → (k : ℕ) (p : TermStep) → At (described C).strands k (u.state.next k) p → length u.state.run < 128
 run_small C law u h k p a =

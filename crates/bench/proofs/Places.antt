@@ -58,6 +58,9 @@ extends_same ns = ([], sym (append-nil ns))
 pub extends_on : (ns ms ks : List Node) → Extends ns ms → Extends ms ks → Extends ns ks
 extends_on ns ms ks e f = (e.0 ++ f.0, f.1 ∙ ap (λ (l : List Node). l ++ f.0) e.1 ∙ append_assoc ns e.0 f.0)
 
+pub extends_none : (ns ms : List Node) → ns ≡ [] → Extends ns ms
+extends_none ns ms e = (ms, ap (λ (l : List Node). l ++ ms) (sym e))
+
 -- what is held stays, with its term
 pub extends_term : (ns ms : List Node) → Extends ns ms → (i : ℕ) → i < length ns → (i < length ms) × (term ms i ≡ term ns i)
 extends_term ns ms (more, e) i l = go ns ms more e l
@@ -115,9 +118,12 @@ pub swept_skip : (ns ss : List Node) (vs qs : List (Option NodeNo)) (n : ℕ) (m
 swept_skip ns ss vs qs n ms ps l h s =
     let (p, e) = a_place (slice_index_or ps n None) h in
     record {
-      grown = s.grown; kept = s.kept; right = s.right;
+      grown = s.grown;
+      kept = s.kept;
+      right = s.right;
       done = before_or_at (λ i. told ms (slice_index_or ps i None) ≡ valued (value_in ns vs) (term ss i)) n s.done (ap (told ms) e ∙ sym (s.right n p l e));
-      few = s.few; size = s.size;
+      few = s.few;
+      size = s.size;
     }
 
 said_same : (v : Values) (f g : ℕ → Maybe Term) (i : ℕ) (n : Node) → Below i n → ((j : ℕ) → j < i → f j ≡ g j) → said_by v f n ≡ said_by v g n
@@ -147,9 +153,12 @@ swept_place ns ss vs qs n ms ks ps x None o k l m e f s h =
     let p : slice_set ps n None ≡ ps = ap (λ (x : Option NodeNo). slice_set ps n x) (sym e) ∙ set-get_or ps n None in
     rw (h.0, p)
     record {
-      grown = s.grown; kept = s.kept; right = s.right;
+      grown = s.grown;
+      kept = s.kept;
+      right = s.right;
       done = before_or_at (λ i. told ms (slice_index_or ps i None) ≡ valued (value_in ns vs) (term ss i)) n s.done (ap (told ms) e ∙ sym h.1 ∙ v);
-      few = s.few; size = s.size;
+      few = s.few;
+      size = s.size;
     }
 swept_place ns ss vs qs n ms ks ps x (Some p) o k l m e f s h =
     let v = ap (said_by (value_in ms vs) (λ i. told ms (slice_index_or ps i None))) f ∙ swept_value ns ss vs qs n ms ps o k l s in

@@ -35,7 +35,7 @@ pub opens : (ns : List Node) (ss : List Standing) (cs : List Strand) (vs : List 
 opens ns ss cs vs acts ps n v a p =
     rw (a, p)
     (ap₂ (λ (f : ℕ → ℕ) (w : Values). record { state = record { next = f; value = w; run = [] }; written = [] })
-      (fun_ext (λ k. ap (λ (x : List Standing). next_in x k) n ∙ first_next cs k)) (fun_ext (λ x. ap (told ns) (v x))))
+    (fun_ext (λ k. ap (λ (x : List Standing). next_in x k) n ∙ first_next cs k)) (fun_ext (λ x. ap (told ns) (v x))))
 
 pub opened_reached : (S : Protocol) (u : Situation) → u ≡ opened → ∥ Reached S u ∥₁
 opened_reached S u e = ∣ subst (Reached S) (sym e) (([], stop refl), λ i l. absurd (omega (arith, l))) ∣₁

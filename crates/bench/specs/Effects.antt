@@ -9,10 +9,10 @@ use Rattle.terms.specs.declared.number.Variable.{Variable}
 use Rattle.protocol.specs.Strands.{TermStep, At}
 use Rattle.protocol.specs.declared.step.Action.{Action}
 use Rattle.runs.specs.Protocols.{TermAction, Protocol}
-use Rattle.runs.specs.Runs.{Values, Does, State, bind, onward, messages}
+use Rattle.runs.specs.Runs.{Values, Does, State, Moves, bind, onward, messages}
 use Rattle.runs.specs.Tables.{action_of}
 use Rattle.runs.specs.Valued.{valued}
-use Rattle.playing.specs.Calls.{IsInput, Situation}
+use Rattle.playing.specs.Calls.{IsInput, Situation, Next, NoSuchStrand, Done}
 use Rattle.playing.specs.declared.faults.StepFault.{StepFault}
 use Rattle.playing.specs.declared.faults.StepFault.TheVariants.{NoStrand, Finished, WrongCall, NotWritten, NotDerivable, Stuck}
 use Rattle.bench.specs.declared.effect.Effect.{Effect}
@@ -109,3 +109,13 @@ Numbered (Send a) = Unit {0}
 Numbered (Open x p) = x.0 < 64
 Numbered (Split x p y q) = (x.0 < 64) × (y.0 < 64)
 Numbered Agree = Unit {0}
+
+-- what strand k's next step does that is no input, or why it is not taken
+abbrev pub MoveAt : Protocol → List Node → Situation → ℕ → Result Effect StepFault → Type 0
+MoveAt S ns u k (Ok e) = EffectHeld ns e × ((p : TermStep) × Next S u k p × (¬ IsInput p) × Does u.state.value (messages u.state.run) p (bound ns u.state.value e) (added ns e))
+MoveAt S ns u k (Err NoStrand) = NoSuchStrand S k
+MoveAt S ns u k (Err Finished) = Done S u k
+MoveAt S ns u k (Err WrongCall) = (p : TermStep) × Next S u k p × IsInput p
+MoveAt S ns u k (Err NotWritten) = ⊥
+MoveAt S ns u k (Err NotDerivable) = ⊥
+MoveAt S ns u k (Err Stuck) = (p : TermStep) × Next S u k p × (¬ IsInput p) × ((st : State) → ¬ Moves S u.state k st)

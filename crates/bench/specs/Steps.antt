@@ -5,11 +5,14 @@ use Rattle.std.proofs.Math.ListN.{get_elem?}
 use Rattle.terms.specs.Nodes.{at, says, term}
 use Rattle.terms.specs.declared.node.Node.{Node}
 use Rattle.terms.specs.declared.number.NodeNo.{NodeNo}
+use Rattle.terms.specs.declared.number.Label.{Label}
+use Rattle.terms.specs.declared.number.Variable.{Variable}
 use Rattle.notebook.specs.Calls.{Lawful}
 use Rattle.protocol.specs.declared.step.Step.{Step}
-use Rattle.protocol.specs.Strands.{At}
+use Rattle.protocol.specs.Strands.{TermStep, input, At}
+use Rattle.runs.specs.Protocols.{Protocol}
 use Rattle.protocol.specs.Lawful.{Content}
-use Rattle.playing.specs.Calls.{Situation, Writable}
+use Rattle.playing.specs.Calls.{Situation, Writable, IsInput, Next, NoSuchStrand, Done}
 use Rattle.bench.specs.Places.{terms_at}
 use Rattle.playing.specs.declared.faults.StepFault.{StepFault}
 use Rattle.playing.specs.declared.faults.StepFault.TheVariants.{NoStrand, Finished, WrongCall, NotWritten, NotDerivable, Stuck}
@@ -38,3 +41,13 @@ PageOf ns ws q (Some p) = (q < length ws) × (p.0 < length ns) × (at (terms_at 
 abbrev pub Turned : ℕ → List Node → List NodeNo → Node → Option Node → Type 0
 Turned names ns ws n None = ¬ Writable names (terms_at ns ws) n
 Turned names ns ws n (Some m) = Writable names (terms_at ns ws) n × Lawful (length ns) m × (says (term ns) m ≡ says (at (terms_at ns ws)) n)
+
+-- strand k's next input, or why there is none
+abbrev pub InputAt : Protocol → Situation → ℕ → Result (Label × Variable) StepFault → Type 0
+InputAt S u k (Ok (l, x)) = Next S u k (input l.0 x.0) × (x.0 < 64)
+InputAt S u k (Err NoStrand) = NoSuchStrand S k
+InputAt S u k (Err Finished) = Done S u k
+InputAt S u k (Err WrongCall) = (p : TermStep) × Next S u k p × (¬ IsInput p)
+InputAt S u k (Err NotWritten) = ⊥
+InputAt S u k (Err NotDerivable) = ⊥
+InputAt S u k (Err Stuck) = ⊥

@@ -1,6 +1,8 @@
 // A bench plays runs of a sheet, call by call, over any notebook.
 #![tactic(auto)]
 
+mod bench;
+mod calls;
 mod copying;
 mod effect;
 mod opening;
@@ -13,3 +15,5 @@ mod stepping;
 mod tables;
 mod taking;
 mod writing;
+
+pub use bench::Bench;

@@ -34,7 +34,7 @@ place_map f (a ∷ l) (suc i) p e = place_map f l i p e
 at_from : {A B : Type 0} (f : A → B) (ss : List (List A)) (k i : ℕ) (q : B) → At (map (map f) ss) k i q → (p : A) × At ss k i p × (q ≡ f p)
 at_from {A} {B} f ss k i q a = map_place f (get_or ss k []) i q (subst (λ (l : List B). get_elem? l i ≡ some q) (get_or-map (map f) ss k []) a)
 
-at_to : {A B : Type 0} (f : A → B) (ss : List (List A)) (k i : ℕ) (p : A) → At ss k i p → At (map (map f) ss) k i (f p)
+pub at_to : {A B : Type 0} (f : A → B) (ss : List (List A)) (k i : ℕ) (p : A) → At ss k i p → At (map (map f) ss) k i (f p)
 at_to {A} {B} f ss k i p a = subst (λ (l : List B). get_elem? l i ≡ some (f p)) (sym (get_or-map (map f) ss k [])) (place_map f (get_or ss k []) i p a)
 
 node_below : (C : Content) (i : ℕ) (n : Node) → NodeLaw C i n → Below i n
