@@ -30,9 +30,10 @@ no_strand : (C : Content) (k : ℕ) → length C.strands ≤ k → NoSuchStrand 
 no_strand C k l = omega (arith, l, length-map C.strands (map (step_of C.nodes)))
 
 done : (C : Content) (u : Situation) (k : ℕ) → NextStep C u k (Err Finished) → Done (described C) u k
-done C u k l =
-    (omega (arith, l.0, length-map C.strands (map (step_of C.nodes))),
-    omega (arith, l.1, ap length (strand_of C k), length-map (slice_index_or C.strands k []) (step_of C.nodes)))
+done C u k l = (
+  omega (arith, l.0, length-map C.strands (map (step_of C.nodes))),
+  omega (arith, l.1, ap length (strand_of C k), length-map (slice_index_or C.strands k []) (step_of C.nodes)),
+)
 
 pub input_refused : (C : Content) (u : Situation) (k : ℕ) (f : StepFault) → NextStep C u k (Err f) → InputAt (described C) u k (Err f)
 input_refused C u k NoStrand h = no_strand C k h

@@ -9,3 +9,4 @@ pub mod Patterned
 pub mod Bound
 pub mod Performed
 pub mod Following
+pub mod Calling

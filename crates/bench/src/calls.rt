@@ -2,6 +2,7 @@
 ghost use Rattle.std.specs.Prelude.{◌≡◌, length, IfOk, OnErr};
 ghost use Rattle.sheet.specs.Sheets.{content_of};
 ghost use Rattle.playing.specs.Calls.{opened, Wrote, Fed, Moved};
+ghost use Rattle.notebook.specs.Replies.{Unchanged};
 ghost use Rattle.bench.specs.Tables.{sheet_in, protocol_in, nodes_of, situation};
 ghost use Rattle.bench.specs.Effects.{EffectHeld, Performs, performed};
 
@@ -11,7 +12,7 @@ use crate::effect::Effect;
 use crate::tables::Tables;
 use notebook::Notebook;
 use playing::{StepFault, WriteFault};
-use protocol::{Action, Direction, Step};
+use protocol::{Action, Direction};
 use sheet::Sheet;
 use std::alloc::{AllocError, Global};
 use terms::{Node, NodeNo, StrandNo};
@@ -27,5 +28,63 @@ impl<N: Notebook + Drop> Bench<N> {
         book.clear();
         copy(&mut book, &tables.pages, 0);
         Ok(Bench { book, tables })
+    }
+
+    // Takes a step, and lets the notebook know what is new on the pages and in the run.
+    fn perform(&mut self, strand: StrandNo, effect: Effect)
+        requires held { EffectHeld (nodes_of self.old.tables) effect }
+        requires performs { Performs (protocol_in self.old.tables) (nodes_of self.old.tables) (situation self.old.tables).state strand.0 effect }
+        ensures situation { situation self.new.tables ≡ performed (nodes_of self.old.tables) (situation self.old.tables) strand.0 effect }
+        ensures sheet { sheet_in self.new.tables ≡ sheet_in self.old.tables }
+    {
+        let held = self.tables.pages.len();
+        self.tables.perform(strand, effect);
+        copy(&mut self.book, &self.tables.pages, held);
+        if let Some(action) = effect.action() {
+            self.book.note(action.node).unwrap();
+        }
+    }
+
+    // Writes a node at the next of the caller's 512 places.
+    pub fn write(&mut self, node: Node) -> Result<NodeNo, WriteFault>
+        ensures wrote { Wrote (length (sheet_in self.old.tables).names) (situation self.old.tables) node result (situation self.new.tables) }
+        ensures sheet { sheet_in self.new.tables ≡ sheet_in self.old.tables }
+        ensures kept { OnErr result (Unchanged (N.Notebook.nodes self.old.book) (N.Notebook.noted self.old.book) (N.Notebook.nodes self.new.book) (N.Notebook.noted self.new.book)) }
+    {
+        let held = self.tables.pages.len();
+        let place = self.tables.write(node)?;
+        copy(&mut self.book, &self.tables.pages, held);
+        Ok(place)
+    }
+
+    // Gives a strand at an input the message at a place, where the notebook says that it can be put together.
+    pub fn feed(&mut self, strand: StrandNo, place: NodeNo) -> Result<(), StepFault>
+        ensures fed { Fed (protocol_in self.old.tables) (situation self.old.tables) strand.0 place.0 result (situation self.new.tables) }
+        ensures sheet { sheet_in self.new.tables ≡ sheet_in self.old.tables }
+        ensures kept { OnErr result (Unchanged (N.Notebook.nodes self.old.book) (N.Notebook.noted self.old.book) (N.Notebook.nodes self.new.book) (N.Notebook.noted self.new.book)) }
+    {
+        let (label, variable) = self.tables.input(strand)?;
+        let node = self.tables.page_of(place).ok_or(StepFault::NotWritten)?;
+        if !self.book.derivable(node) {
+            return Err(StepFault::NotDerivable);
+        }
+        let action = Action {
+            direction: Direction::Input,
+            label,
+            node,
+        };
+        self.perform(strand, Effect::Receive { action, variable });
+        Ok(())
+    }
+
+    // Takes a strand's next step, which is no input.
+    pub fn make_move(&mut self, strand: StrandNo) -> Result<(), StepFault>
+        ensures moved { Moved (protocol_in self.old.tables) (situation self.old.tables) strand.0 result (situation self.new.tables) }
+        ensures sheet { sheet_in self.new.tables ≡ sheet_in self.old.tables }
+        ensures kept { OnErr result (Unchanged (N.Notebook.nodes self.old.book) (N.Notebook.noted self.old.book) (N.Notebook.nodes self.new.book) (N.Notebook.noted self.new.book)) }
+    {
+        let effect = self.tables.movement(strand)?;
+        self.perform(strand, effect);
+        Ok(())
     }
 }
