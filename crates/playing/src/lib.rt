@@ -7,9 +7,11 @@ ghost use Rattle.playing.specs.Judging.{FitFinds, FitAdds, FitTells, JudgedByFit
 
 mod calls;
 mod faults;
+mod verdict;
 
 pub use calls::Call;
 pub use faults::{StepFault, WriteFault};
+pub use verdict::Verdict;
 
 // Each call has one answer, and leaves one situation.
 #[tactic(auto, using(crate::proofs::Once::one_write, crate::proofs::Once::one_feed, crate::proofs::Once::one_move))]

@@ -3,18 +3,19 @@ use Rattle.std.proofs.Common.{◌≡◌, ℕ, List, [], Ok, Err, Result, sym, re
 use Rattle.runs.specs.Protocols.{Protocol}
 use Rattle.runs.specs.Runs.{Runs, stop}
 use Rattle.runs.proofs.Releasing.{kept_release}
-use Rattle.playing.specs.Calls.{Situation}
-use Rattle.playing.proofs.Running.{Good, wrote_good, fed_good, moved_good}
-use Rattle.replays.specs.declared.faults.Verdict.{Verdict}
-use Rattle.replays.specs.declared.faults.Verdict.TheVariants.{Kept, Broken}
+use Rattle.playing.specs.Verdicts.{VerdictOf}
+use Rattle.playing.specs.Calls.{Situation, Reached}
+use Rattle.playing.proofs.Running.{wrote_good, fed_good, moved_good}
+use Rattle.playing.specs.declared.verdict.Verdict.{Verdict}
+use Rattle.playing.specs.declared.verdict.Verdict.TheVariants.{Kept, Broken}
 use Rattle.replays.specs.declared.faults.ReplayFault.{ReplayFault}
 use Rattle.replays.specs.Lines.{Line, node, step}
-use Rattle.replays.specs.Replaying.{Judged, Made, Answers, ended, cut, wrong, full, stopped, goes}
+use Rattle.replays.specs.Replaying.{Made, Answers, ended, cut, wrong, full, stopped, goes}
 use Rattle.replays.specs.Laws.{ReplayRuns, BreakShown, KeptReplay}
 use Rattle.replays.proofs.Once.{IsOk}
 
 -- a call that is made keeps what is good
-made_good : (names : ℕ) (S : Protocol) (l : Line) (u v : Situation) → Made names S l u v → Good S u → Good S v
+made_good : (names : ℕ) (S : Protocol) (l : Line) (u v : Situation) → Made names S l u v → Reached S u → Reached S v
 made_good names S (node k a b) u v (p, inl x) g = wrote_good names S u x.0 (Ok p) v x.2 g
 made_good names S (node k a b) u v (p, inr x) g = absurd (subst IsOk x.1 tt)
 made_good names S (step s q) u v (inl x) g = moved_good S u s (Ok tt) v x.1 g
@@ -24,8 +25,8 @@ abbrev verdict_of : Verdict → Result Verdict ReplayFault → Verdict
 verdict_of d (Ok v) = v
 verdict_of d (Err f) = d
 
-at_end : (names : ℕ) (S : Protocol) {n s : ℕ} {u : Situation} {bs : List ℕ} {r : Result Verdict ReplayFault} (v : Verdict) → Answers names S n s u bs r → r ≡ Ok v → Good S u → (k : List ℕ) × (w : Situation) × Runs S k w.state × Judged S w v
-at_end names S {u = u} v (ended w e j q) p g = (g.0.0, u, g.0.1, subst (Judged S u) (ap (verdict_of v) (sym q ∙ p)) j)
+at_end : (names : ℕ) (S : Protocol) {n s : ℕ} {u : Situation} {bs : List ℕ} {r : Result Verdict ReplayFault} (v : Verdict) → Answers names S n s u bs r → r ≡ Ok v → Reached S u → (k : List ℕ) × (w : Situation) × Runs S k w.state × VerdictOf S w.state.run v
+at_end names S {u = u} v (ended w e j q) p g = (g.0.0, u, g.0.1, subst (VerdictOf S u.state.run) (ap (verdict_of v) (sym q ∙ p)) j)
 at_end names S v (cut c q) p g = absurd (subst IsOk (sym p ∙ q) tt)
 at_end names S v (wrong x m e w q) p g = absurd (subst IsOk (sym p ∙ q) tt)
 at_end names S v (full l m e o h q) p g = absurd (subst IsOk (sym p ∙ q) tt)

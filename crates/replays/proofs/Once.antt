@@ -7,18 +7,19 @@ use Rattle.terms.specs.declared.node.Node.{Node}
 use Rattle.terms.specs.declared.number.NodeNo.{NodeNo}
 use Rattle.entries.proofs.Coding.{told, node_entry_one}
 use Rattle.runs.specs.Protocols.{Protocol}
+use Rattle.playing.specs.Verdicts.{VerdictOf}
 use Rattle.playing.specs.declared.faults.WriteFault.{WriteFault}
 use Rattle.playing.specs.declared.faults.StepFault.{StepFault}
 use Rattle.playing.specs.Calls.{Situation, Wrote}
 use Rattle.playing.proofs.Once.{one_write, one_feed, one_move}
-use Rattle.replays.specs.declared.faults.Verdict.{Verdict}
-use Rattle.replays.specs.declared.faults.Verdict.TheVariants.{Kept, Broken}
+use Rattle.playing.specs.declared.verdict.Verdict.{Verdict}
+use Rattle.playing.specs.declared.verdict.Verdict.TheVariants.{Kept, Broken}
 use Rattle.replays.specs.declared.faults.BenchFault.{BenchFault}
 use Rattle.replays.specs.declared.faults.BenchFault.TheVariants.{Write, Step}
 use Rattle.replays.specs.declared.faults.ReplayFault.{ReplayFault}
 use Rattle.replays.specs.declared.faults.ReplayFault.TheVariants.{Bench}
 use Rattle.replays.specs.Lines.{Line, node, step, rec, HasRoom, more_nodes, more_steps}
-use Rattle.replays.specs.Replaying.{Judged, Written, Stepped, Made, Refused, Answers, ended, cut, wrong, full, stopped, goes}
+use Rattle.replays.specs.Replaying.{Written, Stepped, Made, Refused, Answers, ended, cut, wrong, full, stopped, goes}
 use Rattle.replays.specs.Laws.{OneReplay}
 
 -- the number of two bytes
@@ -51,7 +52,7 @@ same_line bs m n k l p q = let f = same_front bs m n (rec k) (rec l) p q in (lin
 nil_front : (bs m : List ℕ) (x : Rec) → bs ≡ [] → bs ≡ encode x ++ m → ⊥
 nil_front bs m x e f = let l = shorter bs m x f in omega (arith, l, ap length e)
 
-judged_one : (S : Protocol) (u : Situation) (v w : Verdict) → Judged S u v → Judged S u w → v ≡ w
+judged_one : (S : Protocol) (u : Situation) (v w : Verdict) → VerdictOf S u.state.run v → VerdictOf S u.state.run w → v ≡ w
 judged_one S u Kept Kept a b = refl
 judged_one S u Kept Broken a b = absurd (a b)
 judged_one S u Broken Kept a b = absurd (b a)

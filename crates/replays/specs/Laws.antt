@@ -3,18 +3,19 @@ use Rattle.std.specs.Prelude.{◌≡◌, ℕ, List, Ok, Result}
 use Rattle.runs.specs.Protocols.{Protocol, LawfulProtocol}
 use Rattle.runs.specs.Runs.{Runs}
 use Rattle.runs.specs.Schedules.{Breaking, holds, Answers}
+use Rattle.playing.specs.Verdicts.{VerdictOf}
 use Rattle.playing.specs.Calls.{Situation}
-use Rattle.replays.specs.declared.faults.Verdict.{Verdict}
+use Rattle.playing.specs.declared.verdict.Verdict.{Verdict}
 use Rattle.replays.specs.declared.faults.ReplayFault.{ReplayFault}
-use Rattle.replays.specs.declared.faults.Verdict.TheVariants.{Kept, Broken}
-use Rattle.replays.specs.Replaying.{Judged, Replays}
+use Rattle.playing.specs.declared.verdict.Verdict.TheVariants.{Kept, Broken}
+use Rattle.replays.specs.Replaying.{Replays}
 
 abbrev pub OneReplay : Type 0
 OneReplay = (names : ℕ) (S : Protocol) (bs : List ℕ) (r o : Result Verdict ReplayFault) → Replays names S bs r → Replays names S bs o → r ≡ o
 
 -- a file that is judged plays a run of some schedule, and the verdict is that of the run
 abbrev pub ReplayRuns : Type 0
-ReplayRuns = (names : ℕ) (S : Protocol) (bs : List ℕ) (v : Verdict) → Replays names S bs (Ok v) → (s : List ℕ) × (u : Situation) × Runs S s u.state × Judged S u v
+ReplayRuns = (names : ℕ) (S : Protocol) (bs : List ℕ) (v : Verdict) → Replays names S bs (Ok v) → (s : List ℕ) × (u : Situation) × Runs S s u.state × VerdictOf S u.state.run v
 
 -- so a file that is judged broken shows a schedule that breaks
 abbrev pub BreakShown : Type 0

@@ -7,24 +7,18 @@ use Rattle.terms.specs.declared.number.NodeNo.{NodeNo}
 use Rattle.entries.specs.Format as e
 use Rattle.entries.specs.Format.{node_entry}
 use Rattle.runs.specs.Protocols.{Protocol}
-use Rattle.runs.specs.Runs as runs
+use Rattle.playing.specs.Verdicts.{VerdictOf}
 use Rattle.playing.specs.declared.faults.WriteFault.{WriteFault}
 use Rattle.playing.specs.declared.faults.WriteFault.TheVariants.{Unlawful}
 use Rattle.playing.specs.declared.faults.StepFault.{StepFault}
 use Rattle.playing.specs.Calls.{Situation, opened, Wrote, Fed, Moved}
-use Rattle.replays.specs.declared.faults.Verdict.{Verdict}
-use Rattle.replays.specs.declared.faults.Verdict.TheVariants.{Kept, Broken}
+use Rattle.playing.specs.declared.verdict.Verdict.{Verdict}
 use Rattle.replays.specs.declared.faults.RunFault.TheVariants.{File, Kind, Limit}
 use Rattle.replays.specs.declared.faults.BenchFault.{BenchFault}
 use Rattle.replays.specs.declared.faults.BenchFault.TheVariants.{Write, Step}
 use Rattle.replays.specs.declared.faults.ReplayFault.{ReplayFault}
 use Rattle.replays.specs.declared.faults.ReplayFault.TheVariants.{Run, Bench}
 use Rattle.replays.specs.Lines.{Line, node, step, rec, InOrder, HasRoom, more_nodes, more_steps}
-
--- the judgement of a run
-abbrev pub Judged : Protocol → Situation → Verdict → Type 0
-Judged S u Kept = ¬ runs.Broken S u.state.run
-Judged S u Broken = runs.Broken S u.state.run
 
 -- the fields of a line are those of a node; or of none, which is an unlawful node
 abbrev pub Written : ℕ → Situation → ℕ → ℕ → ℕ → Result NodeNo WriteFault → Situation → Type 0
@@ -49,7 +43,7 @@ Refused names S (step s q) u (Step f) = Stepped S u s q (Err f) u
 
 -- the answer to the bytes that are left after so many nodes and steps, where the bench means u
 pub data Answers (names : ℕ) (S : Protocol) : ℕ → ℕ → Situation → List ℕ → Result Verdict ReplayFault → Type 0 where
-  ended : {nodes steps : ℕ} {u : Situation} {bs : List ℕ} {r : Result Verdict ReplayFault} (v : Verdict) → bs ≡ [] → Judged S u v → r ≡ Ok v → Answers names S nodes steps u bs r
+  ended : {nodes steps : ℕ} {u : Situation} {bs : List ℕ} {r : Result Verdict ReplayFault} (v : Verdict) → bs ≡ [] → VerdictOf S u.state.run v → r ≡ Ok v → Answers names S nodes steps u bs r
   cut : {nodes steps : ℕ} {u : Situation} {bs : List ℕ} {r : Result Verdict ReplayFault} → CutOff bs → r ≡ Err (Run (File (Cut (nodes + steps)))) → Answers names S nodes steps u bs r
   wrong : {nodes steps : ℕ} {u : Situation} {bs : List ℕ} {r : Result Verdict ReplayFault} (x : Rec) (more : List ℕ) → bs ≡ encode x ++ more → ((l : Line) → rec l ≡ x → ¬ InOrder steps l) → r ≡ Err (Run (Kind (nodes + steps))) → Answers names S nodes steps u bs r
   full : {nodes steps : ℕ} {u : Situation} {bs : List ℕ} {r : Result Verdict ReplayFault} (l : Line) (more : List ℕ) → bs ≡ encode (rec l) ++ more → InOrder steps l → ¬ HasRoom nodes steps l → r ≡ Err (Run (Limit (nodes + steps))) → Answers names S nodes steps u bs r

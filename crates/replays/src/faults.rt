@@ -1,4 +1,4 @@
-// What a replay answers, and why it is turned down: a fault of the file inside one of the run file, inside one of the replay.
+// Why a replay is turned down: a fault of the file inside one of the run file, inside one of the replay.
 ghost use Rattle.std.specs.Prelude.{◌≡◌};
 ghost use Rattle.replays.specs.declared.faults.RunFault.TheVariants.{File};
 ghost use Rattle.replays.specs.declared.faults.ReplayFault.TheVariants.{Run};
@@ -6,12 +6,6 @@ ghost use Rattle.replays.specs.declared.faults.BenchFault.TheVariants.{Write, St
 
 use playing::{StepFault, WriteFault};
 use records::FileFault;
-
-#[derive(Clone, Copy, Debug, PartialEq, Eq)]
-pub enum Verdict {
-    Kept,
-    Broken,
-}
 
 // what is wrong with a run file, and at which record
 #[derive(Clone, Copy, Debug, PartialEq, Eq)]

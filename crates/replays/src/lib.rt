@@ -9,7 +9,7 @@ mod line;
 mod numbers;
 mod reader;
 
-pub use faults::{BenchFault, ReplayFault, RunFault, Verdict};
+pub use faults::{BenchFault, ReplayFault, RunFault};
 pub use line::{Line, NoLine};
 pub use numbers::Layer;
 pub use reader::RunReader;
