@@ -5,6 +5,7 @@ mod bench;
 mod calls;
 mod copying;
 mod effect;
+mod ended;
 mod opening;
 mod patterns;
 mod performing;
@@ -17,3 +18,4 @@ mod taking;
 mod writing;
 
 pub use bench::Bench;
+pub use ended::EndedRun;
