@@ -29,7 +29,7 @@ use Rattle.playing.specs.declared.faults.StepFault.{StepFault}
 use Rattle.playing.specs.declared.faults.StepFault.TheVariants.{NoStrand, Finished, WrongCall, NotWritten, NotDerivable, Stuck}
 use Rattle.bench.specs.declared.effect.Effect.{Effect}
 use Rattle.bench.specs.declared.effect.Effect.TheVariants.{Receive, Send, Open, Split, Agree}
-use Rattle.bench.specs.Benches.{noted_in}
+use Rattle.bench.specs.Steps.{noted_in}
 use Rattle.bench.specs.Places.{terms_at, Extends}
 use Rattle.bench.specs.Tables.{sheet_in, protocol_in, nodes_of, situation}
 use Rattle.bench.specs.declared.tables.Tables.{Tables}
@@ -81,9 +81,14 @@ not_written S ns ws u k q l x w i g = (input l.0 x.0, i.0, tt, omega (arith, g, 
 
 pub not_derivable : (S : Protocol) (ns : List Node) (acts : List Action) (ws : List NodeNo) (u : Situation) (k q : ℕ) (l : Label) (x : Variable) (p : NodeNo) → u.written ≡ terms_at ns ws → u.state.run ≡ map (action_of ns) acts → InputAt S u k (Ok (l, x)) → PageOf ns ws q (Some p) → ¬ Derives (noted_terms ns (noted_in acts)) (term ns p.0) → Fed S u k q (Err NotDerivable) u
 not_derivable S ns acts ws u k q l x p w r i g n =
-    let is : at u.written q ≡ term ns p.0 = ap (λ (ts : List Term). at ts q) w ∙ g.2 in
-    (input l.0 x.0, i.0, tt, omega (arith, g.0, ap length w, length-map ws (λ (z : NodeNo). term ns z.0)),
-    (λ d. n (subst (λ (K : List Term). Derives K (term ns p.0)) (ap messages r ∙ sym (noted_messages ns acts)) (subst (Derives (messages u.state.run)) is d))), refl)
+    let is : at u.written q ≡ term ns p.0 = ap (λ (ts : List Term). at ts q) w ∙ g.2 in (
+      input l.0 x.0,
+      i.0,
+      tt,
+      omega (arith, g.0, ap length w, length-map ws (λ (z : NodeNo). term ns z.0)),
+      (λ d. n (subst (λ (K : List Term). Derives K (term ns p.0)) (ap messages r ∙ sym (noted_messages ns acts)) (subst (Derives (messages u.state.run)) is d))),
+      refl,
+    )
 
 -- a move is made, or not
 pub moved_well : (S : Protocol) (ns : List Node) (u v : Situation) (k : ℕ) (e : Effect) → MoveAt S ns u k (Ok e) → v ≡ performed ns u k e → Moved S u k (Ok tt) v

@@ -1,5 +1,5 @@
 -- The next step of a strand, what a caller may write, and what is done to take a step.
-use Rattle.std.specs.Prelude.{◌≡◌, ℕ, ◌<◌, ◌≤◌, List, [], length, Some, None, Option, Ok, Err, Result, slice_index_or}
+use Rattle.std.specs.Prelude.{◌≡◌, ℕ, ◌<◌, ◌≤◌, List, [], map, length, Some, None, Option, Ok, Err, Result, slice_index_or}
 use Rattle.std.proofs.Math.Option.{some}
 use Rattle.std.proofs.Math.ListN.{get_elem?}
 use Rattle.terms.specs.Nodes.{at, says, term}
@@ -8,6 +8,7 @@ use Rattle.terms.specs.declared.number.NodeNo.{NodeNo}
 use Rattle.terms.specs.declared.number.Label.{Label}
 use Rattle.terms.specs.declared.number.Variable.{Variable}
 use Rattle.notebook.specs.Calls.{Lawful}
+use Rattle.protocol.specs.declared.step.Action.{Action}
 use Rattle.protocol.specs.declared.step.Step.{Step}
 use Rattle.protocol.specs.Strands.{TermStep, input, At}
 use Rattle.runs.specs.Protocols.{Protocol}
@@ -51,3 +52,7 @@ InputAt S u k (Err WrongCall) = (p : TermStep) × Next S u k p × (¬ IsInput p)
 InputAt S u k (Err NotWritten) = ⊥
 InputAt S u k (Err NotDerivable) = ⊥
 InputAt S u k (Err Stuck) = ⊥
+
+-- the places of the run's terms, which the notebook has noted
+abbrev pub noted_in : List Action → List ℕ
+noted_in acts = map (λ (a : Action). a.node.0) acts

@@ -1,7 +1,7 @@
 // The bench: a notebook, and tables beside it. Nothing but the notebook tells what the stranger can put together.
 ghost use Rattle.std.specs.Prelude.{◌≡◌};
 ghost use Rattle.bench.specs.Tables.{nodes_of};
-ghost use Rattle.bench.specs.Benches.{noted_in};
+ghost use Rattle.bench.specs.Steps.{noted_in};
 
 use crate::tables::Tables;
 use notebook::Notebook;

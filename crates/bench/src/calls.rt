@@ -2,8 +2,8 @@
 ghost use Rattle.std.specs.Prelude.{◌≡◌, length, IfOk, OnErr};
 ghost use Rattle.sheet.specs.Sheets.{content_of};
 ghost use Rattle.playing.specs.Calls.{opened, Wrote, Fed, Moved};
-ghost use Rattle.notebook.specs.Replies.{Unchanged};
 ghost use Rattle.bench.specs.Tables.{sheet_in, protocol_in, nodes_of, situation};
+ghost use Rattle.bench.specs.Benches.{sheet_of, protocol_of, situation_of, BookKept};
 ghost use Rattle.bench.specs.Effects.{EffectHeld, Performs, performed};
 
 use crate::bench::Bench;
@@ -21,7 +21,7 @@ impl<N: Notebook + Drop> Bench<N> {
     // Opens a bench on a copy of a sheet; the notebook is cleared.
     #[tactic(auto, using(crate::proofs::Places::extends_none))]
     pub fn open(heap: Global, sheet: &Sheet, book: N) -> Result<Bench<N>, AllocError>
-        ensures { IfOk result (λ b. (sheet_in b.tables ≡ content_of sheet.now) × (situation b.tables ≡ opened)) }
+        ensures { IfOk result (λ b. (sheet_of b ≡ content_of sheet.now) × (situation_of b ≡ opened)) }
     {
         let tables = Tables::open(heap, sheet)?;
         let mut book = book;
@@ -47,9 +47,9 @@ impl<N: Notebook + Drop> Bench<N> {
 
     // Writes a node at the next of the caller's 512 places.
     pub fn write(&mut self, node: Node) -> Result<NodeNo, WriteFault>
-        ensures wrote { Wrote (length (sheet_in self.old.tables).names) (situation self.old.tables) node result (situation self.new.tables) }
-        ensures sheet { sheet_in self.new.tables ≡ sheet_in self.old.tables }
-        ensures kept { OnErr result (Unchanged (N.Notebook.nodes self.old.book) (N.Notebook.noted self.old.book) (N.Notebook.nodes self.new.book) (N.Notebook.noted self.new.book)) }
+        ensures wrote { Wrote (length (sheet_of self.old).names) (situation_of self.old) node result (situation_of self.new) }
+        ensures sheet { sheet_of self.new ≡ sheet_of self.old }
+        ensures kept { OnErr result (BookKept self.old self.new) }
     {
         let held = self.tables.pages.len();
         let place = self.tables.write(node)?;
@@ -59,9 +59,9 @@ impl<N: Notebook + Drop> Bench<N> {
 
     // Gives a strand at an input the message at a place, where the notebook says that it can be put together.
     pub fn feed(&mut self, strand: StrandNo, place: NodeNo) -> Result<(), StepFault>
-        ensures fed { Fed (protocol_in self.old.tables) (situation self.old.tables) strand.0 place.0 result (situation self.new.tables) }
-        ensures sheet { sheet_in self.new.tables ≡ sheet_in self.old.tables }
-        ensures kept { OnErr result (Unchanged (N.Notebook.nodes self.old.book) (N.Notebook.noted self.old.book) (N.Notebook.nodes self.new.book) (N.Notebook.noted self.new.book)) }
+        ensures fed { Fed (protocol_of self.old) (situation_of self.old) strand.0 place.0 result (situation_of self.new) }
+        ensures sheet { sheet_of self.new ≡ sheet_of self.old }
+        ensures kept { OnErr result (BookKept self.old self.new) }
     {
         let (label, variable) = self.tables.input(strand)?;
         let node = self.tables.page_of(place).ok_or(StepFault::NotWritten)?;
@@ -79,9 +79,9 @@ impl<N: Notebook + Drop> Bench<N> {
 
     // Takes a strand's next step, which is no input.
     pub fn make_move(&mut self, strand: StrandNo) -> Result<(), StepFault>
-        ensures moved { Moved (protocol_in self.old.tables) (situation self.old.tables) strand.0 result (situation self.new.tables) }
-        ensures sheet { sheet_in self.new.tables ≡ sheet_in self.old.tables }
-        ensures kept { OnErr result (Unchanged (N.Notebook.nodes self.old.book) (N.Notebook.noted self.old.book) (N.Notebook.nodes self.new.book) (N.Notebook.noted self.new.book)) }
+        ensures moved { Moved (protocol_of self.old) (situation_of self.old) strand.0 result (situation_of self.new) }
+        ensures sheet { sheet_of self.new ≡ sheet_of self.old }
+        ensures kept { OnErr result (BookKept self.old self.new) }
     {
         let effect = self.tables.movement(strand)?;
         self.perform(strand, effect);

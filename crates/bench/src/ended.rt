@@ -2,7 +2,7 @@
 ghost use Rattle.std.specs.Prelude.{◌≡◌, map};
 ghost use Rattle.terms.specs.Nodes.{Found};
 ghost use Rattle.runs.specs.Tables.{action_of};
-ghost use Rattle.bench.specs.Tables.{sheet_in, nodes_of, situation};
+ghost use Rattle.bench.specs.Benches.{sheet_of, situation_of, nodes_of, sheet_ended, situation_ended, nodes_ended};
 
 use crate::bench::Bench;
 use crate::tables::Tables;
@@ -18,8 +18,8 @@ pub struct EndedRun {
 impl<N: Notebook + Drop> Bench<N> {
     // Ends the run. The bench is gone then, and so is its notebook.
     pub fn end(self) -> EndedRun
-        ensures situation { situation result.tables ≡ situation self.tables }
-        ensures sheet { sheet_in result.tables ≡ sheet_in self.tables }
+        ensures situation { situation_ended result ≡ situation_of self }
+        ensures sheet { sheet_ended result ≡ sheet_of self }
     {
         EndedRun {
             tables: self.tables,
@@ -28,14 +28,14 @@ impl<N: Notebook + Drop> Bench<N> {
 
     // The actions of the run so far, each with the place of its term.
     pub fn actions(&self) -> &[Action]
-        ensures { map (action_of (nodes_of self.now.tables)) result.now ≡ (situation self.now.tables).state.run }
+        ensures { map (action_of (nodes_of self.now)) result.now ≡ (situation_of self.now).state.run }
     {
         self.tables.run.as_slice()
     }
 
     // The node at a place of the run's terms.
     pub fn node(&self, place: NodeNo) -> Option<Node>
-        ensures { Found (nodes_of self.now.tables) place.0 result }
+        ensures { Found (nodes_of self.now) place.0 result }
     {
         self.tables.pages.get(place).map(|page| page.node)
     }
@@ -44,14 +44,14 @@ impl<N: Notebook + Drop> Bench<N> {
 impl EndedRun {
     // The actions of the run, each with the place of its term.
     pub fn actions(&self) -> &[Action]
-        ensures { map (action_of (nodes_of self.now.tables)) result.now ≡ (situation self.now.tables).state.run }
+        ensures { map (action_of (nodes_ended self.now)) result.now ≡ (situation_ended self.now).state.run }
     {
         self.tables.run.as_slice()
     }
 
     // The node at a place of the run's terms.
     pub fn node(&self, place: NodeNo) -> Option<Node>
-        ensures { Found (nodes_of self.now.tables) place.0 result }
+        ensures { Found (nodes_ended self.now) place.0 result }
     {
         self.tables.pages.get(place).map(|page| page.node)
     }

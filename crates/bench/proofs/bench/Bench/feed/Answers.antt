@@ -5,7 +5,7 @@ use Rattle.derivation.specs.Derive.{Derives}
 use Rattle.derivation.specs.Noted.{noted_terms}
 use Rattle.terms.specs.Nodes.{term}
 use Rattle.playing.specs.declared.faults.StepFault.TheVariants.{NotWritten}
-use Rattle.bench.specs.Benches.{noted_in}
+use Rattle.bench.specs.Steps.{noted_in}
 use Rattle.bench.specs.Steps.{PageOf}
 use Rattle.bench.specs.Tables.{sheet_in, protocol_in, nodes_of, situation}
 use Rattle.bench.proofs.Calling.{derivable_told, fed_performs, fed_well, not_written, not_derivable}
