@@ -2,5 +2,6 @@
 #![tactic(auto)]
 
 mod calls;
+mod replay;
 
 pub use calls::play;
