@@ -3,3 +3,4 @@ pub mod Settling
 pub mod Finding
 pub mod Reading
 pub mod Breaking
+pub mod Saying

@@ -1,15 +1,16 @@
 // A run is broken where the later action of the property comes in it, and under the values that this fixes the earlier one does
-// not come before.
+// not come before. That is asked of runs of messages alone.
 ghost use Rattle.std.specs.Prelude.{◌<◌, length, Decides};
 ghost use Rattle.sheet.specs.Sheets.{content_of};
 ghost use Rattle.pages.specs.Pages.{nodes_on};
 ghost use Rattle.runs.specs.Runs.{Broken};
 ghost use Rattle.runs.specs.Tables.{action_of, described};
 ghost use Rattle.playing.specs.Judging.{Judged, ClosedRun};
-ghost use Rattle.judging.specs.Judgements.{RunHeld, run_of, Suited, Comes};
+ghost use Rattle.judging.specs.Judgements.{RunHeld, run_of, Suited, Comes, Judgement};
 
 use crate::fitting::{Fitting, MOST_VARIABLES};
 use pages::PageTable;
+use playing::Verdict;
 use protocol::{Action, Property};
 use sheet::Sheet;
 use terms::NodeNo;
@@ -69,8 +70,8 @@ impl Fitting<'_> {
     }
 }
 
-// Whether a run over the places of these pages breaks the property of a sheet.
-pub fn is_broken(sheet: &Sheet, pages: &PageTable, run: &[Action]) -> bool
+// Whether a run of messages over the places of these pages breaks the property of a sheet.
+fn is_broken(sheet: &Sheet, pages: &PageTable, run: &[Action]) -> bool
     requires held { RunHeld (nodes_on pages.now) run.now }
     requires said { ClosedRun (run_of (nodes_on pages.now) run.now) }
     ensures { Decides result (Broken (described (content_of sheet.now)) (run_of (nodes_on pages.now) run.now)) }
@@ -82,4 +83,18 @@ pub fn is_broken(sheet: &Sheet, pages: &PageTable, run: &[Action]) -> bool
         }
     }
     false
+}
+
+// How a run over the places of these pages is judged by the property of a sheet, or none where some action's place is not held
+// or its term is no message. Each action that the later one of the property fits costs one pass over those before it.
+pub fn judge(sheet: &Sheet, pages: &PageTable, run: &[Action]) -> Option<Verdict>
+    ensures { Judgement (described (content_of sheet.now)) (nodes_on pages.now) run.now result }
+{
+    if !run.iter().all(|action| pages.is_message(action.node)) {
+        return None;
+    }
+    if is_broken(sheet, pages, run) {
+        return Some(Verdict::Broken);
+    }
+    Some(Verdict::Kept)
 }

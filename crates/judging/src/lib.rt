@@ -4,4 +4,4 @@
 mod fitting;
 mod judgement;
 
-pub use judgement::is_broken;
+pub use judgement::judge;

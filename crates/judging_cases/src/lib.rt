@@ -1,8 +1,5 @@
-// Runs written out by hand over pages, and whether they break the property of a sheet.
+// The cases of judgements: runs written out by hand over pages, and how they are judged by the property of a sheet.
 #![tactic(auto)]
 
-mod said;
 #[cfg(test)]
 mod tests;
-
-pub use said::judge;

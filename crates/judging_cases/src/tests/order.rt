@@ -1,5 +1,6 @@
 // Which action comes first, on which label and in which direction.
 use crate::tests::support::{Case, expect, input, name, output, pages_of, sheet_of};
+use playing::Verdict::{Broken, Kept};
 use sheet_cases::Entry;
 use sheet_cases::kind::{NAME, NONE, OUTPUT, VARIABLE};
 use std::test::Fail;
@@ -34,15 +35,15 @@ fn the_earlier_action_comes_before(rt: HostRuntime) -> Result<(), Fail> {
     // the name n a second time
     let pages = pages_of(heap, &[name(0), name(1), name(0)])?;
     let cases = [
-        Case(&[], false),
-        Case(&[output(B, N)], true),
-        Case(&[output(A, N), output(B, N)], false),
-        Case(&[output(A, N), output(B, 2)], false),
-        Case(&[output(B, N), output(A, N)], true),
-        Case(&[output(A, M), output(B, N)], true),
-        Case(&[input(A, N), output(B, N)], true),
-        Case(&[output(A, N), output(B, N), output(B, M)], true),
-        Case(&[input(B, N)], false),
+        Case(&[], Kept),
+        Case(&[output(B, N)], Broken),
+        Case(&[output(A, N), output(B, N)], Kept),
+        Case(&[output(A, N), output(B, 2)], Kept),
+        Case(&[output(B, N), output(A, N)], Broken),
+        Case(&[output(A, M), output(B, N)], Broken),
+        Case(&[input(A, N), output(B, N)], Broken),
+        Case(&[output(A, N), output(B, N), output(B, M)], Broken),
+        Case(&[input(B, N)], Kept),
     ];
     expect(&rt, &sheet, &pages, &cases)
 }
@@ -56,8 +57,8 @@ fn with_no_earlier_action_the_later_one_breaks(rt: HostRuntime) -> Result<(), Fa
     let sheet = sheet_of(heap, &entries)?;
     let pages = pages_of(heap, &[name(0), name(1)])?;
     let cases = [
-        Case(&[output(A, N), output(B, M)], false),
-        Case(&[output(A, N), output(B, N)], true),
+        Case(&[output(A, N), output(B, M)], Kept),
+        Case(&[output(A, N), output(B, N)], Broken),
     ];
     expect(&rt, &sheet, &pages, &cases)
 }

@@ -1,7 +1,8 @@
 // A sheet, pages and runs over them.
-use crate::said::judge;
+use judging::judge;
 use notebook::PutFault;
 use pages::PageTable;
+use playing::Verdict;
 use protocol::{Action, Direction};
 use sheet::Sheet;
 use sheet_cases::{Entry, SheetFile};
@@ -60,9 +61,9 @@ pub(crate) fn pages_of(heap: Global, nodes: &[Node]) -> Result<PageTable, Fail> 
     Ok(pages)
 }
 
-// a run, and whether it is broken
+// a run of messages, and its verdict
 #[derive(Clone, Copy)]
-pub(crate) struct Case<'a>(pub &'a [Action], pub bool);
+pub(crate) struct Case<'a>(pub &'a [Action], pub Verdict);
 
 pub(crate) fn expect(
     rt: &impl Abort,
