@@ -22,20 +22,21 @@ use Rattle.runs.proofs.Decisions.{binds?}
 use Rattle.runs.proofs.Valuing.{means_valued, valued_means, next_fresh}
 use Rattle.playing.specs.Calls.{Situation, Reached}
 use Rattle.playing.proofs.Running.{moves_good}
-use Rattle.bench.specs.Places.{told, value_in, KeptIn, Placed, PlacedRight}
+use Rattle.judging.specs.Places.{term_at, values_in}
+use Rattle.bench.specs.Places.{KeptIn, Placed, PlacedRight}
 use Rattle.bench.specs.declared.effect.Effect.{Effect}
 use Rattle.bench.specs.declared.effect.Effect.TheVariants.{Receive, Send, Open, Split, Agree}
 use Rattle.bench.specs.Effects.{bound, added, EffectHeld, Numbered, Performs, performed}
 
 -- a value in the table is bound
-pub value_set : (ns : List Node) (vs : List (Option NodeNo)) (x : ℕ) (p : NodeNo) → x < length vs → value_in ns (slice_set vs x (Some p)) ≡ bind (value_in ns vs) x (term ns p.0)
+pub value_set : (ns : List Node) (vs : List (Option NodeNo)) (x : ℕ) (p : NodeNo) → x < length vs → values_in ns (slice_set vs x (Some p)) ≡ bind (values_in ns vs) x (term ns p.0)
 value_set ns vs x p l = fun_ext at
   where
-    at : (y : ℕ) → value_in ns (slice_set vs x (Some p)) y ≡ bind (value_in ns vs) x (term ns p.0) y
+    at : (y : ℕ) → values_in ns (slice_set vs x (Some p)) y ≡ bind (values_in ns vs) x (term ns p.0) y
     at y =
         elim (ℕ_discrete y x) [
-          | yes e ↦ rw e (ap (told ns) (get_or-set_same vs x (Some p) None l) ∙ sym (bind_here (value_in ns vs) x (term ns p.0)))
-          | no n ↦ ap (told ns) (get_or-set_other vs x y (Some p) None n) ∙ sym (bind_there (value_in ns vs) x (term ns p.0) y n)
+          | yes e ↦ rw e (ap (term_at ns) (get_or-set_same vs x (Some p) None l) ∙ sym (bind_here (values_in ns vs) x (term ns p.0)))
+          | no n ↦ ap (term_at ns) (get_or-set_other vs x y (Some p) None n) ∙ sym (bind_there (values_in ns vs) x (term ns p.0) y n)
         ]
 
 some_is : {p q : NodeNo} → Some p ≡ Some q → p ≡ q
@@ -75,8 +76,8 @@ step_stays S u k p w r law h a d x M e =
       | no n ↦ does_keeps x d n ∙ e
     ])
 
-pub right_after : (ns ss : List Node) (vs ws ps : List (Option NodeNo)) → Stays (value_in ns vs) (value_in ns ws) → Placed ns ss vs ps → PlacedRight ns ss ws ps
-right_after ns ss vs ws ps s h i p l e = valued_more (value_in ns vs) (value_in ns ws) s (term ss i) (term ns p.0) (sym (h i l) ∙ ap (told ns) e)
+pub right_after : (ns ss : List Node) (vs ws ps : List (Option NodeNo)) → Stays (values_in ns vs) (values_in ns ws) → Placed ns ss vs ps → PlacedRight ns ss ws ps
+right_after ns ss vs ws ps s h i p l e = valued_more (values_in ns vs) (values_in ns ws) s (term ss i) (term ns p.0) (sym (h i l) ∙ ap (term_at ns) e)
 
 pub held_numbered : (ns : List Node) (e : Effect) → EffectHeld ns e → Numbered e
 held_numbered ns (Receive a x) h = h.1

@@ -15,7 +15,8 @@ use Rattle.runs.specs.Tables.{action_of}
 use Rattle.runs.specs.Valued.{valued}
 use Rattle.playing.specs.Calls.{Situation, Reached, Writable, writing}
 use Rattle.playing.proofs.Running.{writing_good}
-use Rattle.bench.specs.Places.{told, value_in, next_in, terms_at, state_in, situation_in, KeptIn, HeldIn, run_places, Placed, Extends}
+use Rattle.judging.specs.Places.{term_at, values_in}
+use Rattle.bench.specs.Places.{next_in, terms_at, state_in, situation_in, KeptIn, HeldIn, run_places, Placed, Extends}
 use Rattle.bench.specs.declared.standing.Standing.{Standing}
 use Rattle.bench.proofs.Places.{extends_term, extends_told, extends_values}
 

@@ -27,7 +27,8 @@ use Rattle.playing.proofs.Running.{moves_good}
 use Rattle.bench.specs.declared.standing.Standing.{Standing}
 use Rattle.bench.specs.declared.effect.Effect.{Effect}
 use Rattle.bench.specs.declared.effect.Effect.TheVariants.{Receive, Send, Open, Split, Agree}
-use Rattle.bench.specs.Places.{value_in, next_in, terms_at, situation_in, state_in, strands_in, run_places, HeldIn, KeptIn, Extends}
+use Rattle.judging.specs.Places.{values_in}
+use Rattle.bench.specs.Places.{next_in, terms_at, situation_in, state_in, strands_in, run_places, HeldIn, KeptIn, Extends}
 use Rattle.bench.specs.Effects.{bound, added, acted, EffectHeld, Performs, performed}
 use Rattle.bench.proofs.Places.{extends_term, extends_values}
 use Rattle.bench.proofs.Growth.{extends_run, extends_terms, extends_held, held_push}
@@ -73,12 +74,12 @@ added_grown ns ms (Split x p y q) e h = refl
 added_grown ns ms Agree e h = refl
 
 -- where the run stands after a step
-pub performed_situation : (ns ms : List Node) (ss ts : List Standing) (vs ws : List (Option NodeNo)) (acts bs : List Action) (ps : List NodeNo) (k : ℕ) (e : Effect) → Extends ns ms → KeptIn ns ws → HeldIn ns (run_places acts) → HeldIn ns ps → EffectHeld ns e → next_in ts ≡ onward (next_in ss) k → value_in ns ws ≡ bound ns (value_in ns vs) e → bs ≡ acts ++ acted e → situation_in ms ts ws bs ps ≡ performed ns (situation_in ns ss vs acts ps) k e
+pub performed_situation : (ns ms : List Node) (ss ts : List Standing) (vs ws : List (Option NodeNo)) (acts bs : List Action) (ps : List NodeNo) (k : ℕ) (e : Effect) → Extends ns ms → KeptIn ns ws → HeldIn ns (run_places acts) → HeldIn ns ps → EffectHeld ns e → next_in ts ≡ onward (next_in ss) k → values_in ns ws ≡ bound ns (values_in ns vs) e → bs ≡ acts ++ acted e → situation_in ms ts ws bs ps ≡ performed ns (situation_in ns ss vs acts ps) k e
 performed_situation ns ms ss ts vs ws acts bs ps k e x kept held hps he n v b =
-    let values : value_in ms ws ≡ bound ns (value_in ns vs) e = extends_values ns ms ws x kept ∙ v in
+    let values : values_in ms ws ≡ bound ns (values_in ns vs) e = extends_values ns ms ws x kept ∙ v in
     let run : map (action_of ms) bs ≡ map (action_of ns) acts ++ added ns e = ap (map (action_of ms)) b ∙ acted_run ms acts e ∙ ap₂ (λ (l m : List TermAction). l ++ m) (extends_run ns ms acts x held) (added_grown ns ms e x he) in
     ap₂ (λ (f : ℕ → ℕ) (w : Values). record { state = record { next = f; value = w; run = map (action_of ms) bs }; written = terms_at ms ps }) n values
-    ∙ ap₂ (λ (r : List TermAction) (ts : List Term). record { state = record { next = onward (next_in ss) k; value = bound ns (value_in ns vs) e; run = r }; written = ts }) run (extends_terms ns ms ps x hps)
+    ∙ ap₂ (λ (r : List TermAction) (ts : List Term). record { state = record { next = onward (next_in ss) k; value = bound ns (values_in ns vs) e; run = r }; written = ts }) run (extends_terms ns ms ps x hps)
 
 -- which is a run's again
 pub performed_reached : (S : Protocol) (ns : List Node) (u v : Situation) (k : ℕ) (e : Effect) → ∥ Reached S u ∥₁ → Performs S ns u.state k e → v ≡ performed ns u k e → ∥ Reached S v ∥₁

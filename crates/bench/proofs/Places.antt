@@ -25,7 +25,8 @@ use Rattle.sheet.specs.declared.sheet.Sheet.{Sheet}
 use Rattle.runs.proofs.Inspecting.{law_told}
 use Rattle.runs.specs.Runs.{Values}
 use Rattle.runs.specs.Valued.{valued, both}
-use Rattle.bench.specs.Places.{told, value_in, KeptIn, Placed, one, count, Extends, PlainNode, said_by, PlacesValue, Swept}
+use Rattle.judging.specs.Places.{term_at, values_in}
+use Rattle.bench.specs.Places.{KeptIn, Placed, one, count, Extends, PlainNode, said_by, PlacesValue, Swept}
 
 -- a lawful node is put where there is room, and its term is the value placed
 pub put_ok : (ns ms : List Node) (n : Node) (r : Result NodeNo PutFault) → Lawful (length ns) n → length ns < most_nodes → ((noted : List ℕ) → Put ns noted n r ms noted) → (p : NodeNo) × (r ≡ Ok p) × PlacesValue ns (some (says (term ns) n)) (Some p) ms
@@ -72,7 +73,7 @@ extends_term ns ms (more, e) i l = go ns ms more e l
         let r = go (ns ++ (n ∷ [])) ms more (e ∙ sym (append_assoc ns (n ∷ []) more)) h in
         (r.0, r.1 ∙ term_before ns n i l)
 
-pub extends_told : (ns ms : List Node) → Extends ns ms → (o : Option NodeNo) → ((p : NodeNo) → o ≡ Some p → p.0 < length ns) → told ms o ≡ told ns o
+pub extends_told : (ns ms : List Node) → Extends ns ms → (o : Option NodeNo) → ((p : NodeNo) → o ≡ Some p → p.0 < length ns) → term_at ms o ≡ term_at ns o
 extends_told ns ms e None h = refl
 extends_told ns ms e (Some p) h = ap some (extends_term ns ms e p.0 (h p refl)).1
 
@@ -80,7 +81,7 @@ pub extends_kept : (ns ms : List Node) (vs : List (Option NodeNo)) → Extends n
 extends_kept ns ms vs e h x p q = (extends_term ns ms e p.0 (h x p q)).0
 
 -- values stay as they are
-pub extends_values : (ns ms : List Node) (vs : List (Option NodeNo)) → Extends ns ms → KeptIn ns vs → value_in ms vs ≡ value_in ns vs
+pub extends_values : (ns ms : List Node) (vs : List (Option NodeNo)) → Extends ns ms → KeptIn ns vs → values_in ms vs ≡ values_in ns vs
 extends_values ns ms vs e h = fun_ext (λ x. extends_told ns ms e (slice_index_or vs x None) (h x))
 
 some_is : {p q : NodeNo} → Some p ≡ Some q → p ≡ q
@@ -104,7 +105,7 @@ count_gap ps i l e =
     omega (arith, h, count_more ps i p l e, length-set ps i (Some p))
 
 -- the values are placed node by node
-pub swept_none : (ns ss : List Node) (vs qs : List (Option NodeNo)) → KeptIn ns qs → ((i : ℕ) (p : NodeNo) → i < length ss → slice_index_or qs i None ≡ Some p → valued (value_in ns vs) (term ss i) ≡ some (term ns p.0)) → Swept ns ss vs qs 0 ns qs
+pub swept_none : (ns ss : List Node) (vs qs : List (Option NodeNo)) → KeptIn ns qs → ((i : ℕ) (p : NodeNo) → i < length ss → slice_index_or qs i None ≡ Some p → valued (values_in ns vs) (term ss i) ≡ some (term ns p.0)) → Swept ns ss vs qs 0 ns qs
 swept_none ns ss vs qs k r = record { grown = extends_same ns; kept = k; right = r; done = λ i l. absurd (omega (arith, l)); few = omega arith; size = refl }
 
 before_or_at : (P : ℕ → Type 0) (n : ℕ) → ((i : ℕ) → i < n → P i) → P n → (i : ℕ) → i < n + 1 → P i
@@ -121,7 +122,7 @@ swept_skip ns ss vs qs n ms ps l h s =
       grown = s.grown;
       kept = s.kept;
       right = s.right;
-      done = before_or_at (λ i. told ms (slice_index_or ps i None) ≡ valued (value_in ns vs) (term ss i)) n s.done (ap (told ms) e ∙ sym (s.right n p l e));
+      done = before_or_at (λ i. term_at ms (slice_index_or ps i None) ≡ valued (values_in ns vs) (term ss i)) n s.done (ap (term_at ms) e ∙ sym (s.right n p l e));
       few = s.few;
       size = s.size;
     }
@@ -134,11 +135,11 @@ said_same v f g i (Pair a c) b h = ap₂ (both pair) (h a.0 b.0) (h c.0 b.1)
 said_same v f g i (Seal a c) b h = ap₂ (both seal) (h a.0 b.0) (h c.0 b.1)
 
 -- what is placed for node n is its value
-swept_value : (ns ss : List Node) (vs qs : List (Option NodeNo)) (n : ℕ) (ms : List Node) (ps : List (Option NodeNo)) → Ordered ss → KeptIn ns vs → n < length ss → Swept ns ss vs qs n ms ps → said_by (value_in ms vs) (λ i. told ms (slice_index_or ps i None)) (node ss n) ≡ valued (value_in ns vs) (term ss n)
+swept_value : (ns ss : List Node) (vs qs : List (Option NodeNo)) (n : ℕ) (ms : List Node) (ps : List (Option NodeNo)) → Ordered ss → KeptIn ns vs → n < length ss → Swept ns ss vs qs n ms ps → said_by (values_in ms vs) (λ i. term_at ms (slice_index_or ps i None)) (node ss n) ≡ valued (values_in ns vs) (term ss n)
 swept_value ns ss vs qs n ms ps o k l s =
-    ap (λ (v : Values). said_by v (λ i. told ms (slice_index_or ps i None)) (node ss n)) (extends_values ns ms vs s.grown k)
-    ∙ said_same (value_in ns vs) (λ i. told ms (slice_index_or ps i None)) (λ i. valued (value_in ns vs) (term ss i)) n (node ss n) (o n l) s.done
-    ∙ sym (valued_unfolds (value_in ns vs) ss n o l)
+    ap (λ (v : Values). said_by v (λ i. term_at ms (slice_index_or ps i None)) (node ss n)) (extends_values ns ms vs s.grown k)
+    ∙ said_same (values_in ns vs) (λ i. term_at ms (slice_index_or ps i None)) (λ i. valued (values_in ns vs) (term ss i)) n (node ss n) (o n l) s.done
+    ∙ sym (valued_unfolds (values_in ns vs) ss n o l)
 
 set_at : (P : ℕ → Option NodeNo → Type 0) (ps : List (Option NodeNo)) (n : ℕ) (r : Option NodeNo) → n < length ps → P n r → ((i : ℕ) → P i (slice_index_or ps i None)) → (i : ℕ) → P i (slice_index_or (slice_set ps n r) i None)
 set_at P ps n r l h k i =
@@ -147,32 +148,32 @@ set_at P ps n r l h k i =
       | no d ↦ subst (P i) (sym (get_or-set_other ps n i r None d)) (k i)
     ]
 
-pub swept_place : (ns ss : List Node) (vs qs : List (Option NodeNo)) (n : ℕ) (ms ks : List Node) (ps : List (Option NodeNo)) (x : Node) (r : Option NodeNo) → Ordered ss → KeptIn ns vs → n < length ss → n < length ps → slice_index_or ps n None ≡ None → x ≡ node ss n → Swept ns ss vs qs n ms ps → PlacesValue ms (said_by (value_in ms vs) (λ i. told ms (slice_index_or ps i None)) x) r ks → Swept ns ss vs qs (n + 1) ks (slice_set ps n r)
+pub swept_place : (ns ss : List Node) (vs qs : List (Option NodeNo)) (n : ℕ) (ms ks : List Node) (ps : List (Option NodeNo)) (x : Node) (r : Option NodeNo) → Ordered ss → KeptIn ns vs → n < length ss → n < length ps → slice_index_or ps n None ≡ None → x ≡ node ss n → Swept ns ss vs qs n ms ps → PlacesValue ms (said_by (values_in ms vs) (λ i. term_at ms (slice_index_or ps i None)) x) r ks → Swept ns ss vs qs (n + 1) ks (slice_set ps n r)
 swept_place ns ss vs qs n ms ks ps x None o k l m e f s h =
-    let v = ap (said_by (value_in ms vs) (λ i. told ms (slice_index_or ps i None))) f ∙ swept_value ns ss vs qs n ms ps o k l s in
+    let v = ap (said_by (values_in ms vs) (λ i. term_at ms (slice_index_or ps i None))) f ∙ swept_value ns ss vs qs n ms ps o k l s in
     let p : slice_set ps n None ≡ ps = ap (λ (x : Option NodeNo). slice_set ps n x) (sym e) ∙ set-get_or ps n None in
     rw (h.0, p)
     record {
       grown = s.grown;
       kept = s.kept;
       right = s.right;
-      done = before_or_at (λ i. told ms (slice_index_or ps i None) ≡ valued (value_in ns vs) (term ss i)) n s.done (ap (told ms) e ∙ sym h.1 ∙ v);
+      done = before_or_at (λ i. term_at ms (slice_index_or ps i None) ≡ valued (values_in ns vs) (term ss i)) n s.done (ap (term_at ms) e ∙ sym h.1 ∙ v);
       few = s.few;
       size = s.size;
     }
 swept_place ns ss vs qs n ms ks ps x (Some p) o k l m e f s h =
-    let v = ap (said_by (value_in ms vs) (λ i. told ms (slice_index_or ps i None))) f ∙ swept_value ns ss vs qs n ms ps o k l s in
-    let here : valued (value_in ns vs) (term ss n) ≡ some (term ks p.0) = sym v ∙ h.3 in
+    let v = ap (said_by (values_in ms vs) (λ i. term_at ms (slice_index_or ps i None))) f ∙ swept_value ns ss vs qs n ms ps o k l s in
+    let here : valued (values_in ns vs) (term ss n) ≡ some (term ks p.0) = sym v ∙ h.3 in
     record {
       grown = extends_on ns ms ks s.grown h.0;
       kept = set_at (λ i y. (q : NodeNo) → y ≡ Some q → q.0 < length ks) ps n (Some p) m (λ q d. subst (λ (z : NodeNo). z.0 < length ks) (some_is d) h.2) (extends_kept ms ks ps h.0 s.kept);
-      right = λ i q b d. set_at (λ j y. (z : NodeNo) → j < length ss → y ≡ Some z → valued (value_in ns vs) (term ss j) ≡ some (term ks z.0)) ps n (Some p) m
+      right = λ i q b d. set_at (λ j y. (z : NodeNo) → j < length ss → y ≡ Some z → valued (values_in ns vs) (term ss j) ≡ some (term ks z.0)) ps n (Some p) m
           (λ z b d. here ∙ ap (λ (y : NodeNo). some (term ks y.0)) (some_is d))
           (λ j z b d. s.right j z b d ∙ ap some (sym (extends_term ms ks h.0 z.0 (s.kept j z d)).1))
           i q b d;
-      done = before_or_at (λ i. told ks (slice_index_or (slice_set ps n (Some p)) i None) ≡ valued (value_in ns vs) (term ss i)) n
-          (λ i b. ap (told ks) (get_or-set_other ps n i (Some p) None (λ d. absurd (omega (arith, d, b)))) ∙ extends_told ms ks h.0 (slice_index_or ps i None) (s.kept i) ∙ s.done i b)
-          (ap (told ks) (get_or-set_same ps n (Some p) None m) ∙ sym here);
+      done = before_or_at (λ i. term_at ks (slice_index_or (slice_set ps n (Some p)) i None) ≡ valued (values_in ns vs) (term ss i)) n
+          (λ i b. ap (term_at ks) (get_or-set_other ps n i (Some p) None (λ d. absurd (omega (arith, d, b)))) ∙ extends_told ms ks h.0 (slice_index_or ps i None) (s.kept i) ∙ s.done i b)
+          (ap (term_at ks) (get_or-set_same ps n (Some p) None m) ∙ sym here);
       few = omega (arith, s.few, h.1, count_more ps n p m e);
       size = length-set ps n (Some p) ∙ s.size;
     }

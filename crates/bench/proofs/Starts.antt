@@ -15,7 +15,8 @@ use Rattle.protocol.specs.Strands.{steps_of}
 use Rattle.runs.specs.Protocols.{Protocol}
 use Rattle.runs.specs.Runs.{Values, nowhere, stop}
 use Rattle.playing.specs.Calls.{Situation, opened, Reached}
-use Rattle.bench.specs.Places.{told, value_in, next_in, strands_in, standing_first, situation_in, KeptIn, Placed, count, Swept}
+use Rattle.judging.specs.Places.{term_at, values_in}
+use Rattle.bench.specs.Places.{next_in, strands_in, standing_first, situation_in, KeptIn, Placed, count, Swept}
 use Rattle.bench.specs.declared.standing.Standing.{Standing}
 use Rattle.bench.proofs.Places.{extends_values}
 
@@ -35,7 +36,7 @@ pub opens : (ns : List Node) (ss : List Standing) (cs : List Strand) (vs : List 
 opens ns ss cs vs acts ps n v a p =
     rw (a, p)
     (ap₂ (λ (f : ℕ → ℕ) (w : Values). record { state = record { next = f; value = w; run = [] }; written = [] })
-    (fun_ext (λ k. ap (λ (x : List Standing). next_in x k) n ∙ first_next cs k)) (fun_ext (λ x. ap (told ns) (v x))))
+    (fun_ext (λ k. ap (λ (x : List Standing). next_in x k) n ∙ first_next cs k)) (fun_ext (λ x. ap (term_at ns) (v x))))
 
 pub opened_reached : (S : Protocol) (u : Situation) → u ≡ opened → ∥ Reached S u ∥₁
 opened_reached S u e = ∣ subst (Reached S) (sym e) (([], stop refl), λ i l. absurd (omega (arith, l))) ∣₁

@@ -20,15 +20,16 @@ use Rattle.playing.specs.Calls.{IsInput}
 use Rattle.playing.specs.declared.faults.StepFault.{StepFault}
 use Rattle.playing.specs.declared.faults.StepFault.TheVariants.{Stuck}
 use Rattle.bench.specs.declared.effect.Effect.{Effect}
-use Rattle.bench.specs.Places.{told, value_in, KeptIn, Placed}
+use Rattle.judging.specs.Places.{term_at, values_in}
+use Rattle.bench.specs.Places.{KeptIn, Placed}
 use Rattle.bench.specs.Effects.{ValueAt, DoneBy, TakenBy, PairAt, SealAt, OpenedBy, SplitBy}
 use Rattle.bench.specs.Tables.{sheet_in, nodes_of, situation}
 use Rattle.bench.specs.declared.tables.Tables.{Tables}
 use Rattle.bench.specs.declared.effect.Effect.TheVariants.{Send, Open, Split, Agree}
 
 pub value_at : (t : Tables) (i : ℕ) (o : Option NodeNo) → i < length (sheet_in t).nodes → o ≡ slice_index_or t.placed i None → ValueAt (nodes_of t) (situation t).state.value (term (sheet_in t).nodes i) o
-value_at t i None l e = sym (t.told i l) ∙ ap (told (nodes_of t)) (sym e)
-value_at t i (Some p) l e = (t.placed_held i p (sym e), sym (t.told i l) ∙ ap (told (nodes_of t)) (sym e))
+value_at t i None l e = sym (t.told i l) ∙ ap (term_at (nodes_of t)) (sym e)
+value_at t i (Some p) l e = (t.placed_held i p (sym e), sym (t.told i l) ∙ ap (term_at (nodes_of t)) (sym e))
 
 none_some : {M : Term} → ◌≡◌ {A = Maybe Term} none (some M) → ⊥
 none_some e = grind arith

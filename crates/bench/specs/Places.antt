@@ -19,16 +19,8 @@ use Rattle.runs.specs.Tables.{action_of}
 use Rattle.runs.specs.Valued.{valued, both}
 use Rattle.notebook.specs.Limits.{local_names, env_names}
 use Rattle.playing.specs.Calls.{Situation}
+use Rattle.judging.specs.Places.{term_at, values_in}
 use Rattle.bench.specs.declared.standing.Standing.{Standing}
-
--- the term at a place, where there is a place
-abbrev pub told : List Node → Option NodeNo → Maybe Term
-told ns None = none
-told ns (Some p) = some (term ns p.0)
-
--- the values of the variables, whose places are in a row
-abbrev pub value_in : List Node → List (Option NodeNo) → Values
-value_in ns vs x = told ns (slice_index_or vs x None)
 
 -- the number of each strand's next step
 abbrev pub next_in : List Standing → ℕ → ℕ
@@ -48,7 +40,7 @@ terms_at ns ps = map (λ p. term ns p.0) ps
 
 -- where the run stands
 abbrev pub state_in : List Node → List Standing → List (Option NodeNo) → List Action → State
-state_in ns ss vs acts = record { next = next_in ss; value = value_in ns vs; run = map (action_of ns) acts }
+state_in ns ss vs acts = record { next = next_in ss; value = values_in ns vs; run = map (action_of ns) acts }
 
 -- and what is written
 abbrev pub situation_in : List Node → List Standing → List (Option NodeNo) → List Action → List NodeNo → Situation
@@ -68,11 +60,11 @@ run_places acts = map (λ (a : Action). a.node) acts
 
 -- each node of the sheet has the place of its value, where its value is told
 abbrev pub Placed : List Node → List Node → List (Option NodeNo) → List (Option NodeNo) → Type 0
-Placed ns ss vs ps = (i : ℕ) → i < length ss → told ns (slice_index_or ps i None) ≡ valued (value_in ns vs) (term ss i)
+Placed ns ss vs ps = (i : ℕ) → i < length ss → term_at ns (slice_index_or ps i None) ≡ valued (values_in ns vs) (term ss i)
 
 -- each node of the sheet that has a place has that of its value
 abbrev pub PlacedRight : List Node → List Node → List (Option NodeNo) → List (Option NodeNo) → Type 0
-PlacedRight ns ss vs ps = (i : ℕ) (p : NodeNo) → i < length ss → slice_index_or ps i None ≡ Some p → valued (value_in ns vs) (term ss i) ≡ some (term ns p.0)
+PlacedRight ns ss vs ps = (i : ℕ) (p : NodeNo) → i < length ss → slice_index_or ps i None ≡ Some p → valued (values_in ns vs) (term ss i) ≡ some (term ns p.0)
 
 -- Placed is so in one way at most
 pub Placed-prop : (ns ss : List Node) (vs ps : List (Option NodeNo)) → IsProp (Placed ns ss vs ps)
@@ -115,7 +107,7 @@ PlacesValue ns v (Some p) ms = Extends ns ms × (length ms ≤ length ns + 1) ×
 pub record Swept (ns ss : List Node) (vs qs : List (Option NodeNo)) (n : ℕ) (ms : List Node) (ps : List (Option NodeNo)) : Type 0 where
   pub grown : Extends ns ms
   pub kept : KeptIn ms ps
-  pub right : (i : ℕ) (p : NodeNo) → i < length ss → slice_index_or ps i None ≡ Some p → valued (value_in ns vs) (term ss i) ≡ some (term ms p.0)
-  pub done : (i : ℕ) → i < n → told ms (slice_index_or ps i None) ≡ valued (value_in ns vs) (term ss i)
+  pub right : (i : ℕ) (p : NodeNo) → i < length ss → slice_index_or ps i None ≡ Some p → valued (values_in ns vs) (term ss i) ≡ some (term ms p.0)
+  pub done : (i : ℕ) → i < n → term_at ms (slice_index_or ps i None) ≡ valued (values_in ns vs) (term ss i)
   pub few : length ms + count qs ≤ length ns + count ps
   pub size : length ps ≡ length qs

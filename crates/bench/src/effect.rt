@@ -30,13 +30,14 @@ pub(crate) enum Effect {
 
 impl Effect {
     ghost use Rattle.terms.specs.declared.node.Node.{Node};
-    ghost use Rattle.bench.specs.Places.{value_in, KeptIn};
+    ghost use Rattle.judging.specs.Places.{values_in};
+    ghost use Rattle.bench.specs.Places.{KeptIn};
     ghost use Rattle.bench.specs.Effects.{EffectHeld, Numbered, bound, acted};
 
     // Gives the variables of the step their values.
     pub(crate) fn bind(self, values: &mut [Option<NodeNo>; 64])
         requires { Numbered self }
-        ensures values { (ns : List Node) → EffectHeld ns self → value_in ns values.new ≡ bound ns (value_in ns values.old) self }
+        ensures values { (ns : List Node) → EffectHeld ns self → values_in ns values.new ≡ bound ns (values_in ns values.old) self }
         ensures held { (ns : List Node) → EffectHeld ns self → KeptIn ns values.old → KeptIn ns values.new }
     {
         match self {

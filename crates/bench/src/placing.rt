@@ -6,7 +6,8 @@ ghost use Rattle.sheet.specs.Sheets.{content_of};
 ghost use Rattle.notebook.specs.Calls.{Lawful};
 ghost use Rattle.notebook.specs.Limits.{most_nodes};
 ghost use Rattle.pages.specs.Pages.{nodes_on};
-ghost use Rattle.bench.specs.Places.{told, value_in, KeptIn, count, PlainNode, PlacedRight, said_by, PlacesValue, Swept};
+ghost use Rattle.judging.specs.Places.{term_at, values_in};
+ghost use Rattle.bench.specs.Places.{KeptIn, count, PlainNode, PlacedRight, said_by, PlacesValue, Swept};
 
 use pages::PageTable;
 use sheet::Sheet;
@@ -33,7 +34,7 @@ fn place(
     requires values_kept { KeptIn (nodes_on pages.old) values.now }
     requires placed_kept { KeptIn (nodes_on pages.old) placed.now }
     requires room { length (nodes_on pages.old) < most_nodes }
-    ensures { let ns = nodes_on pages.old in PlacesValue ns (said_by (value_in ns values.now) (λ i. told ns (slice_index_or placed.now i None)) node) result (nodes_on pages.new) }
+    ensures { let ns = nodes_on pages.old in PlacesValue ns (said_by (values_in ns values.now) (λ i. term_at ns (slice_index_or placed.now i None)) node) result (nodes_on pages.new) }
 {
     match node {
         Node::Name(_) | Node::Env(_) => Some(put(pages, node)),

@@ -7,7 +7,8 @@ use Rattle.pages.specs.Pages.{nodes_on}
 use Rattle.runs.specs.Runs.{Values, onward}
 use Rattle.runs.specs.Tables.{action_of}
 use Rattle.bench.specs.declared.standing.Standing.{Standing}
-use Rattle.bench.specs.Places.{value_in, next_in, strands_in}
+use Rattle.judging.specs.Places.{values_in}
+use Rattle.bench.specs.Places.{next_in, strands_in}
 use Rattle.bench.specs.Tables.{sheet_in, nodes_of, situation, protocol_in}
 use Rattle.bench.proofs.Places.{extends_kept, sound_of, sheet_law}
 use Rattle.bench.proofs.Growth.{extends_held}
@@ -29,7 +30,7 @@ place_all-requires-clause-right c =
     let d = c.requires.performs in
     let e = c.bind.ensures.values (nodes_of t) c.requires.held in
     let s = step_stays (protocol_in t) (situation t) c.args.strand.0 d.0 _ _ (sheet_lawful t.sheet) t.reached d.1 d.2 in
-    right_after _ _ _ _ _ (subst (λ (w : Values). (x : ℕ) (M : Term) → value_in (nodes_of t) t.values x ≡ some M → w x ≡ some M) (sym e) s) t.told
+    right_after _ _ _ _ _ (subst (λ (w : Values). (x : ℕ) (M : Term) → values_in (nodes_of t) t.values x ≡ some M → w x ≡ some M) (sym e) s) t.told
 
 pub record-requires : goal.record-requires
 record-requires c =
