@@ -28,27 +28,6 @@ use Rattle.bench.specs.declared.effect.Effect.{Effect}
 use Rattle.bench.specs.declared.effect.Effect.TheVariants.{Receive, Send, Open, Split, Agree}
 use Rattle.bench.specs.Effects.{bound, added, EffectHeld, Numbered, Performs, performed}
 
--- a value in the table is bound
-pub value_set : (ns : List Node) (vs : List (Option NodeNo)) (x : ℕ) (p : NodeNo) → x < length vs → values_in ns (slice_set vs x (Some p)) ≡ bind (values_in ns vs) x (term ns p.0)
-value_set ns vs x p l = fun_ext at
-  where
-    at : (y : ℕ) → values_in ns (slice_set vs x (Some p)) y ≡ bind (values_in ns vs) x (term ns p.0) y
-    at y =
-        elim (ℕ_discrete y x) [
-          | yes e ↦ rw e (ap (term_at ns) (get_or-set_same vs x (Some p) None l) ∙ sym (bind_here (values_in ns vs) x (term ns p.0)))
-          | no n ↦ ap (term_at ns) (get_or-set_other vs x y (Some p) None n) ∙ sym (bind_there (values_in ns vs) x (term ns p.0) y n)
-        ]
-
-some_is : {p q : NodeNo} → Some p ≡ Some q → p ≡ q
-some_is e = grind arith
-
-pub kept_set : (ns : List Node) (vs : List (Option NodeNo)) (x : ℕ) (p : NodeNo) → x < length vs → p.0 < length ns → KeptIn ns vs → KeptIn ns (slice_set vs x (Some p))
-kept_set ns vs x p l h k y q e =
-    elim (ℕ_discrete y x) [
-      | yes f ↦ subst (λ (z : NodeNo). z.0 < length ns) (some_is (sym (get_or-set_same vs x (Some p) None l) ∙ (ap (λ (i : ℕ). slice_index_or (slice_set vs x (Some p)) i None) (sym f) ∙ e))) h
-      | no n ↦ k y q (sym (get_or-set_other vs x y (Some p) None n) ∙ e)
-    ]
-
 -- more values make no term's value another
 abbrev pub Stays : Values → Values → Type 0
 Stays v w = (x : ℕ) (M : Term) → v x ≡ some M → w x ≡ some M

@@ -20,9 +20,9 @@ use Rattle.playing.specs.Calls.{IsInput}
 use Rattle.playing.specs.declared.faults.StepFault.{StepFault}
 use Rattle.playing.specs.declared.faults.StepFault.TheVariants.{Stuck}
 use Rattle.bench.specs.declared.effect.Effect.{Effect}
-use Rattle.judging.specs.Places.{term_at, values_in}
+use Rattle.judging.specs.Places.{term_at, values_in, PartsAt}
 use Rattle.bench.specs.Places.{KeptIn, Placed}
-use Rattle.bench.specs.Effects.{ValueAt, DoneBy, TakenBy, PairAt, SealAt, OpenedBy, SplitBy}
+use Rattle.bench.specs.Effects.{ValueAt, DoneBy, TakenBy, OpenedBy, SplitBy}
 use Rattle.bench.specs.Tables.{sheet_in, nodes_of, situation}
 use Rattle.bench.specs.declared.tables.Tables.{Tables}
 use Rattle.bench.specs.declared.effect.Effect.TheVariants.{Send, Open, Split, Agree}
@@ -55,16 +55,16 @@ open_no_value ns v K t x c h w r (opened m k) = none_some (sym h ∙ means_value
 pub open_no_key : (ns : List Node) (v : Values) (K : List Term) (t : Term) (x : ℕ) (c : Term) → ValueAt ns v c None → DoneBy ns v K (opens t x c) None
 open_no_key ns v K t x c h w r (opened m k) = none_some (sym h ∙ means_valued k)
 
-pub open_no_seal : (ns : List Node) (v : Values) (K : List Term) (t : Term) (x : ℕ) (c : Term) (p : NodeNo) → ValueAt ns v t (Some p) → SealAt ns p.0 None → DoneBy ns v K (opens t x c) None
+pub open_no_seal : (ns : List Node) (v : Values) (K : List Term) (t : Term) (x : ℕ) (c : Term) (p : NodeNo) → ValueAt ns v t (Some p) → PartsAt seal ns p.0 None → DoneBy ns v K (opens t x c) None
 open_no_seal ns v K t x c p h n w r (opened {b = b} {c = k} m d) = n b k (some-injective (term ns p.0) (seal b k) (sym h.1 ∙ means_valued m))
 
-pub open_other : (ns : List Node) (v : Values) (K : List Term) (t : Term) (x : ℕ) (c : Term) (p q b k : NodeNo) → ValueAt ns v t (Some p) → ValueAt ns v c (Some q) → SealAt ns p.0 (Some (b, k)) → ¬ (term ns k.0 ≡ term ns q.0) → DoneBy ns v K (opens t x c) None
+pub open_other : (ns : List Node) (v : Values) (K : List Term) (t : Term) (x : ℕ) (c : Term) (p q b k : NodeNo) → ValueAt ns v t (Some p) → ValueAt ns v c (Some q) → PartsAt seal ns p.0 (Some (b, k)) → ¬ (term ns k.0 ≡ term ns q.0) → DoneBy ns v K (opens t x c) None
 open_other ns v K t x c p q b k h g s n w r (opened {b = b'} {c = k'} m d) =
     let e : seal (term ns b.0) (term ns k.0) ≡ seal b' k' = sym s.2 ∙ some-injective (term ns p.0) (seal b' k') (sym h.1 ∙ means_valued m) in
     let f : term ns q.0 ≡ k' = some-injective (term ns q.0) k' (sym g.1 ∙ means_valued d) in
     n (ap second e ∙ sym f)
 
-pub open_yes : (ns : List Node) (v : Values) (K : List Term) (t : Term) (x : Variable) (c : Term) (p q b k : NodeNo) → x.0 < 64 → ValueAt ns v t (Some p) → ValueAt ns v c (Some q) → SealAt ns p.0 (Some (b, k)) → term ns k.0 ≡ term ns q.0 → DoneBy ns v K (opens t x.0 c) (Some (Open x b))
+pub open_yes : (ns : List Node) (v : Values) (K : List Term) (t : Term) (x : Variable) (c : Term) (p q b k : NodeNo) → x.0 < 64 → ValueAt ns v t (Some p) → ValueAt ns v c (Some q) → PartsAt seal ns p.0 (Some (b, k)) → term ns k.0 ≡ term ns q.0 → DoneBy ns v K (opens t x.0 c) (Some (Open x b))
 open_yes ns v K t x c p q b k l h g s e =
     ((s.0, l), opened (valued_means v t (seal (term ns b.0) (term ns k.0)) (h.1 ∙ ap some s.2)) (valued_means v c (term ns k.0) (g.1 ∙ ap some (sym e))))
 
@@ -72,10 +72,10 @@ open_yes ns v K t x c p q b k l h g s e =
 pub split_no_value : (ns : List Node) (v : Values) (K : List Term) (t : Term) (x y : ℕ) → ValueAt ns v t None → DoneBy ns v K (splits t x y) None
 split_no_value ns v K t x y h w r (halved m) = none_some (sym h ∙ means_valued m)
 
-pub split_no_pair : (ns : List Node) (v : Values) (K : List Term) (t : Term) (x y : ℕ) (p : NodeNo) → ValueAt ns v t (Some p) → PairAt ns p.0 None → DoneBy ns v K (splits t x y) None
+pub split_no_pair : (ns : List Node) (v : Values) (K : List Term) (t : Term) (x y : ℕ) (p : NodeNo) → ValueAt ns v t (Some p) → PartsAt pair ns p.0 None → DoneBy ns v K (splits t x y) None
 split_no_pair ns v K t x y p h n w r (halved {a = a} {b = b} m) = n a b (some-injective (term ns p.0) (pair a b) (sym h.1 ∙ means_valued m))
 
-pub split_yes : (ns : List Node) (v : Values) (K : List Term) (t : Term) (x y : Variable) (p a b : NodeNo) → x.0 < 64 → y.0 < 64 → ValueAt ns v t (Some p) → PairAt ns p.0 (Some (a, b)) → DoneBy ns v K (splits t x.0 y.0) (Some (Split x a y b))
+pub split_yes : (ns : List Node) (v : Values) (K : List Term) (t : Term) (x y : Variable) (p a b : NodeNo) → x.0 < 64 → y.0 < 64 → ValueAt ns v t (Some p) → PartsAt pair ns p.0 (Some (a, b)) → DoneBy ns v K (splits t x.0 y.0) (Some (Split x a y b))
 split_yes ns v K t x y p a b l m h s =
     ((s.0, l, s.1, m), halved (valued_means v t (pair (term ns a.0) (term ns b.0)) (h.1 ∙ ap some s.2)))
 

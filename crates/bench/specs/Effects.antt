@@ -62,16 +62,6 @@ TakenBy ns v K p (Err NotWritten) = ⊥
 TakenBy ns v K p (Err NotDerivable) = ⊥
 TakenBy ns v K p (Err Stuck) = (¬ IsInput p) × ((w : Values) (r : List TermAction) → ¬ Does v K p w r)
 
--- the halves of a pair at a place, where there is one
-abbrev pub PairAt : List Node → ℕ → Option (NodeNo × NodeNo) → Type 0
-PairAt ns i None = (a b : Term) → ¬ (term ns i ≡ pair a b)
-PairAt ns i (Some (p, q)) = (p.0 < length ns) × (q.0 < length ns) × (term ns i ≡ pair (term ns p.0) (term ns q.0))
-
--- body and key of a seal at a place, where there is one
-abbrev pub SealAt : List Node → ℕ → Option (NodeNo × NodeNo) → Type 0
-SealAt ns i None = (b k : Term) → ¬ (term ns i ≡ seal b k)
-SealAt ns i (Some (p, q)) = (p.0 < length ns) × (q.0 < length ns) × (term ns i ≡ seal (term ns p.0) (term ns q.0))
-
 -- the variable and the key of an open's pattern, which every lawful sheet has
 abbrev pub OpenedBy : List Node → ℕ → Option (Variable × NodeNo) → Type 0
 OpenedBy ss i None = ⊥

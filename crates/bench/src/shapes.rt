@@ -1,7 +1,8 @@
 // Pairs and seals among the pages.
 ghost use Rattle.std.specs.Prelude.{◌<◌, length};
+ghost use Rattle.terms.specs.Terms.{pair, seal};
 ghost use Rattle.pages.specs.Pages.{nodes_on};
-ghost use Rattle.bench.specs.Effects.{PairAt, SealAt};
+ghost use Rattle.judging.specs.Places.{PartsAt};
 
 use pages::PageTable;
 use terms::{Node, NodeNo};
@@ -10,7 +11,7 @@ use terms::{Node, NodeNo};
 #[tactic(auto, using(crate::proofs::Shapely::pair_told))]
 pub(crate) fn pair_at(pages: &PageTable, place: NodeNo) -> Option<(NodeNo, NodeNo)>
     requires { place.0 < length (nodes_on pages.now) }
-    ensures { PairAt (nodes_on pages.now) place.0 result }
+    ensures { PartsAt pair (nodes_on pages.now) place.0 result }
 {
     match pages.get(place)?.node {
         Node::Pair { left, right } => Some((left, right)),
@@ -22,7 +23,7 @@ pub(crate) fn pair_at(pages: &PageTable, place: NodeNo) -> Option<(NodeNo, NodeN
 #[tactic(auto, using(crate::proofs::Shapely::seal_told))]
 pub(crate) fn seal_at(pages: &PageTable, place: NodeNo) -> Option<(NodeNo, NodeNo)>
     requires { place.0 < length (nodes_on pages.now) }
-    ensures { SealAt (nodes_on pages.now) place.0 result }
+    ensures { PartsAt seal (nodes_on pages.now) place.0 result }
 {
     match pages.get(place)?.node {
         Node::Seal { body, key } => Some((body, key)),
