@@ -33,7 +33,8 @@ use Rattle.bench.specs.Steps.{noted_in}
 use Rattle.bench.specs.Places.{terms_at, Extends}
 use Rattle.bench.specs.Tables.{sheet_in, protocol_in, nodes_of, situation}
 use Rattle.bench.specs.declared.tables.Tables.{Tables}
-use Rattle.bench.proofs.Places.{extends_term, sheet_law}
+use Rattle.judging.proofs.Reading.{law_of}
+use Rattle.bench.proofs.Places.{extends_term}
 use Rattle.bench.proofs.Performed.{run_small}
 use Rattle.bench.specs.Steps.{InputAt, PageOf}
 use Rattle.bench.specs.Effects.{EffectHeld, Performs, performed, acted, MoveAt}
@@ -140,7 +141,7 @@ note_taken ns ms l m p (Err Full) h k n = absurd (omega (arith, k, n.1))
 -- the action of a step is noted
 pub step_noted : (t : Tables) (k : ℕ) (e : Effect) (a : Action) (ns ms : List Node) (l m : List ℕ) (r : Result (Unit {0}) NoteFault) → EffectHeld (nodes_of t) e → Performs (protocol_in t) (nodes_of t) (situation t).state k e → acted e ≡ a ∷ [] → Extends (nodes_of t) ns → l ≡ noted_in t.run.items → Noted ns l a.node r ms m → (IsOk r) × (ms ≡ ns) × (m ≡ l ++ (a.node.0 ∷ []))
 step_noted t k e a ns ms l m r h d f x n q =
-    let small = run_small (sheet_in t) (sheet_law t.sheet) (situation t) t.reached k d.0 d.1 in
+    let small = run_small (sheet_in t) (law_of t.sheet) (situation t) t.reached k d.0 d.1 in
     note_taken ns ms l m a.node r (extends_term (nodes_of t) ns x a.node.0 (acted_place (nodes_of t) e a h f)).0
     (omega (arith, small, length-map t.run.items (action_of (nodes_of t)), ap length n, length-map t.run.items (λ (b : Action). b.node.0)))
     q

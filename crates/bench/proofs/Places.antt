@@ -19,13 +19,13 @@ use Rattle.notebook.specs.Calls.{Lawful, Put}
 use Rattle.notebook.specs.Limits.{most_nodes}
 use Rattle.notebook.specs.declared.faults.PutFault.{PutFault}
 use Rattle.notebook.specs.declared.faults.PutFault.TheVariants.{Unlawful, Full}
-use Rattle.protocol.specs.Lawful.{Content, Sound, NodeLaw, Lawful as LawfulSheet}
+use Rattle.protocol.specs.Lawful.{Content, Sound, NodeLaw}
 use Rattle.sheet.specs.Sheets.{content_of}
 use Rattle.sheet.specs.declared.sheet.Sheet.{Sheet}
-use Rattle.runs.proofs.Inspecting.{law_told}
 use Rattle.runs.specs.Runs.{Values}
 use Rattle.runs.specs.Valued.{valued, both}
 use Rattle.judging.specs.Places.{term_at, values_in}
+use Rattle.judging.proofs.Reading.{law_of}
 use Rattle.bench.specs.Places.{KeptIn, Placed, one, count, Extends, PlainNode, said_by, PlacesValue, Swept}
 
 -- a lawful node is put where there is room, and its term is the value placed
@@ -198,16 +198,10 @@ plain_node C s i (Pair a b) h l = ((omega (arith, h.0, l, s.few_nodes), omega (a
 plain_node C s i (Seal b k) h l = ((omega (arith, h.0, l, s.few_nodes), omega (arith, h.1, l, s.few_nodes)), (h.0, h.1))
 
 pub sound_of : (s : Sheet) → Sound (content_of s)
-sound_of s = (law_told (content_of s) s.lawful).sound
-
-pub sheet_few : (s : Sheet) → length (content_of s).nodes ≤ 256
-sheet_few s = (sound_of s).few_nodes
+sound_of s = (law_of s).sound
 
 pub sheet_plain : (s : Sheet) (i : ℕ) → i < length (content_of s).nodes → PlainNode (node (content_of s).nodes i)
 sheet_plain s i l = let h = sound_of s in (plain_node (content_of s) h i (node (content_of s).nodes i) (h.nodes_stand i l) l).0
 
 pub sheet_ordered : (s : Sheet) → Ordered (content_of s).nodes
 sheet_ordered s i l = let h = sound_of s in (plain_node (content_of s) h i (node (content_of s).nodes i) (h.nodes_stand i l) l).1
-
-pub sheet_law : (s : Sheet) → LawfulSheet (content_of s)
-sheet_law s = law_told (content_of s) s.lawful

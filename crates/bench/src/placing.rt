@@ -54,7 +54,7 @@ fn place(
 
 // Places the value of each node of the sheet that has one and no place yet. Each turn reads what the turns before it
 // placed, so a closure over the places would be no plainer than the loop.
-#[tactic(auto, using(crate::proofs::Places::swept_none, crate::proofs::Places::swept_skip, crate::proofs::Places::swept_place, crate::proofs::Places::swept_room, crate::proofs::Places::extends_kept, crate::proofs::Places::sheet_few, crate::proofs::Places::sheet_plain))]
+#[tactic(auto, using(crate::proofs::Places::swept_none, crate::proofs::Places::swept_skip, crate::proofs::Places::swept_place, crate::proofs::Places::swept_room, crate::proofs::Places::extends_kept, judging::proofs::Reading::few_nodes, crate::proofs::Places::sheet_plain))]
 pub(crate) fn place_all(
     sheet: &Sheet,
     values: &[Option<NodeNo>; 64],

@@ -18,7 +18,7 @@ use terms::{Label, Node, NodeNo, Variable};
 
 impl Tables {
     // The place of the value of a node of the sheet.
-    #[tactic(auto, using(crate::proofs::Taken::value_at, crate::proofs::Places::sheet_few))]
+    #[tactic(auto, using(crate::proofs::Taken::value_at, judging::proofs::Reading::few_nodes))]
     fn value_of(&self, node: NodeNo) -> Option<NodeNo>
         requires { node.0 < length (sheet_in self.now).nodes }
         ensures { ValueAt (nodes_of self.now) (situation self.now).state.value (term (sheet_in self.now).nodes node.0) result }

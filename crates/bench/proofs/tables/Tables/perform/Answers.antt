@@ -10,7 +10,8 @@ use Rattle.bench.specs.declared.standing.Standing.{Standing}
 use Rattle.judging.specs.Places.{values_in}
 use Rattle.bench.specs.Places.{next_in, strands_in}
 use Rattle.bench.specs.Tables.{sheet_in, nodes_of, situation, protocol_in}
-use Rattle.bench.proofs.Places.{extends_kept, sound_of, sheet_law}
+use Rattle.judging.proofs.Reading.{law_of}
+use Rattle.bench.proofs.Places.{extends_kept, sound_of}
 use Rattle.bench.proofs.Growth.{extends_held}
 use Rattle.bench.proofs.Starts.{swept_placed}
 use Rattle.bench.proofs.Bound.{right_after, step_stays}
@@ -36,7 +37,7 @@ pub record-requires : goal.record-requires
 record-requires c =
     let t = c.args.self.now in
     let d = c.requires.performs in
-    let h = run_small (sheet_in t) (sheet_law t.sheet) (situation t) t.reached c.args.strand.0 d.0 d.1 in
+    let h = run_small (sheet_in t) (law_of t.sheet) (situation t) t.reached c.args.strand.0 d.0 d.1 in
     omega (arith, h, length-map t.run.items (action_of (nodes_of t)), t.run.ok.0, t.run_room)
 
 pub invariant_of-self-clause-strands : goal.invariant_of-self-clause-strands
