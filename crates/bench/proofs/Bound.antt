@@ -1,32 +1,25 @@
 -- What taking a step leaves as it was, and what it makes true.
-use Rattle.std.proofs.Common.{◌≡◌, ℕ, ◌<◌, ◌≤◌, ◌+◌, List, [], ◌∷◌, ◌++◌, map, length, get_or, slice_index_or, slice_set, Some, None, Option, refl, sym, ap, ap₂, subst, ◌∙◌, arith}
-use Rattle.std.proofs.lemmas.List.{length-map, get_or-set_same, get_or-set_other, get_or-map, map_push}
-use Rattle.std.proofs.Math.Logic.{∥∥₁_map, ∥∥₁_elim}
+use Rattle.std.proofs.Common.{◌≡◌, ℕ, List, Option, sym, ap, ◌∙◌, arith}
+use Rattle.std.proofs.Math.Logic.{∥∥₁_elim}
 use mathlib.Core.Option.{Option as Maybe, none, some, is_set}
-use mathlib.Core.Path.{fun_ext}
-use native.Mathlib.Decide.{ℕ_discrete}
 use Rattle.terms.specs.Terms.{Term}
 use Rattle.terms.specs.Nodes.{term}
 use Rattle.terms.specs.declared.node.Node.{Node}
 use Rattle.terms.specs.declared.number.NodeNo.{NodeNo}
 use Rattle.terms.proofs.Equality.{term_set}
-use Rattle.protocol.specs.Strands.{TermStep, At, Binds}
-use Rattle.protocol.specs.Lawful.{Content, Lawful}
-use Rattle.protocol.specs.declared.step.Action.{Action}
+use Rattle.protocol.specs.Strands.{TermStep, At}
 use Rattle.runs.specs.Protocols.{TermAction, Protocol, LawfulProtocol}
-use Rattle.runs.specs.Runs.{Values, Means, a_name, an_env, a_value, a_pair, a_seal, State, Does, bind, messages, moved, Moves}
-use Rattle.runs.specs.Tables.{action_of, described}
+use Rattle.runs.specs.Runs.{Values, Means, a_name, an_env, a_value, a_pair, a_seal, Does, messages}
 use Rattle.runs.specs.Valued.{valued}
-use Rattle.runs.proofs.Values.{bind_here, bind_there, does_keeps}
+use Rattle.runs.proofs.Values.{does_keeps}
 use Rattle.runs.proofs.Decisions.{binds?}
 use Rattle.runs.proofs.Valuing.{means_valued, valued_means, next_fresh}
 use Rattle.playing.specs.Calls.{Situation, Reached}
-use Rattle.playing.proofs.Running.{moves_good}
 use Rattle.judging.specs.Places.{term_at, values_in}
-use Rattle.bench.specs.Places.{KeptIn, Placed, PlacedRight}
+use Rattle.bench.specs.Places.{Placed, PlacedRight}
 use Rattle.bench.specs.declared.effect.Effect.{Effect}
 use Rattle.bench.specs.declared.effect.Effect.TheVariants.{Receive, Send, Open, Split, Agree}
-use Rattle.bench.specs.Effects.{bound, added, EffectHeld, Numbered, Performs, performed}
+use Rattle.bench.specs.Effects.{EffectHeld, Numbered}
 
 -- more values make no term's value another
 abbrev pub Stays : Values → Values → Type 0

@@ -1,15 +1,15 @@
 -- The calls of a bench: what is fed, and what is moved.
-use Rattle.std.proofs.Common.{◌≡◌, ℕ, ◌<◌, ◌≤◌, List, [], ◌∷◌, ◌++◌, map, length, Some, None, Option, Ok, Err, Result, Decides, refl, sym, ap, ap₂, subst, ◌∙◌, arith, true, Bool}
+use Rattle.std.proofs.Common.{◌≡◌, ℕ, ◌<◌, List, [], ◌∷◌, ◌++◌, map, length, Some, None, Ok, Err, Result, refl, sym, ap, subst, ◌∙◌, arith, Bool}
 use Rattle.std.specs.Coded.{×_prop}
 use Rattle.std.proofs.Math.Logic.{∥∥₁_elim}
 use Rattle.std.proofs.lemmas.List.{length-map, map_push}
-use Rattle.terms.specs.Terms.{Term, name, env, var, pair, seal, Closed, Message, Atom}
+use Rattle.terms.specs.Terms.{Term, name, env, var, pair, seal, Message, Atom}
 use Rattle.terms.specs.Nodes.{at, term}
 use Rattle.terms.specs.declared.node.Node.{Node}
 use Rattle.terms.specs.declared.number.NodeNo.{NodeNo}
 use Rattle.terms.specs.declared.number.Label.{Label}
 use Rattle.terms.specs.declared.number.Variable.{Variable}
-use Rattle.protocol.specs.Strands.{TermStep, input}
+use Rattle.protocol.specs.Strands.{input}
 use Rattle.protocol.specs.declared.step.Action.{Action}
 use Rattle.protocol.specs.declared.step.Direction.TheVariants.{Input}
 use Rattle.derivation.specs.Derive.{Derives}
@@ -21,10 +21,10 @@ use Rattle.notebook.specs.declared.faults.NoteFault.{NoteFault}
 use Rattle.notebook.specs.declared.faults.NoteFault.TheVariants.{NotHeld, Full}
 use Rattle.pages.specs.Columns.{AllLawful}
 use Rattle.pages.proofs.Telling.{terms_closed}
-use Rattle.runs.specs.Protocols.{TermAction, Protocol}
-use Rattle.runs.specs.Runs.{Does, fed, messages, received, Moves, moved, bind, onward}
+use Rattle.runs.specs.Protocols.{Protocol}
+use Rattle.runs.specs.Runs.{fed, messages, Moves, moved}
 use Rattle.runs.specs.Tables.{action_of}
-use Rattle.playing.specs.Calls.{Situation, Reached, Next, IsInput, Fed, Moved, feeding}
+use Rattle.playing.specs.Calls.{Situation, Reached, Fed, Moved, feeding}
 use Rattle.playing.specs.declared.faults.StepFault.{StepFault}
 use Rattle.playing.specs.declared.faults.StepFault.TheVariants.{NoStrand, Finished, WrongCall, NotWritten, NotDerivable, Stuck}
 use Rattle.bench.specs.declared.effect.Effect.{Effect}

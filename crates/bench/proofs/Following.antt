@@ -1,17 +1,15 @@
 -- The next step of a sheet's strand is that of the protocol's.
-use Rattle.std.proofs.Common.{◌≡◌, ℕ, ◌<◌, ◌≤◌, List, [], map, length, slice_index_or, Ok, Err, Result, refl, sym, ap, subst, ◌∙◌, arith}
+use Rattle.std.proofs.Common.{◌≡◌, ℕ, ◌≤◌, List, [], map, length, slice_index_or, Ok, Err, Result, sym, ap, subst, ◌∙◌, arith}
 use Rattle.std.proofs.lemmas.List.{length-map}
-use mathlib.Core.Option.{some, some-injective}
-use Rattle.terms.specs.Terms.{Term}
-use Rattle.terms.specs.Nodes.{node}
+use mathlib.Core.Option.{some-injective}
 use Rattle.terms.specs.declared.node.Node.{Node}
-use Rattle.protocol.specs.Strands.{TermStep, input, At, step_of}
-use Rattle.protocol.specs.Lawful.{Content, Sound, StepLaw}
+use Rattle.protocol.specs.Strands.{TermStep, At, step_of}
+use Rattle.protocol.specs.Lawful.{Content, Sound}
 use Rattle.protocol.specs.declared.step.Step.{Step}
-use Rattle.protocol.specs.declared.step.Step.TheVariants.{Input, Output, Open, Split, Same}
+use Rattle.protocol.specs.declared.step.Step.TheVariants.{Input}
 use Rattle.terms.specs.declared.number.Label.{Label}
 use Rattle.terms.specs.declared.number.Variable.{Variable}
-use Rattle.runs.specs.Protocols.{TermAction, Protocol, strand}
+use Rattle.runs.specs.Protocols.{TermAction, Protocol}
 use Rattle.runs.specs.Runs.{Values, State, Does, Moves, moved, messages}
 use Rattle.runs.specs.Tables.{described}
 use Rattle.runs.proofs.Tabling.{at_to}

@@ -1,5 +1,5 @@
 -- What nodes added to the table leave as it was.
-use Rattle.std.proofs.Common.{◌≡◌, ℕ, zero, suc, ◌<◌, ◌+◌, List, [], ◌∷◌, ◌++◌, map, length, get_or, slice_index_or, Some, None, Option, Result, refl, sym, ap, ap₂, subst, ◌∙◌, ⊎_elim, arith}
+use Rattle.std.proofs.Common.{◌≡◌, ℕ, suc, ◌<◌, List, [], ◌∷◌, ◌++◌, map, length, slice_index_or, None, Option, refl, sym, ap, ap₂, subst, ◌∙◌, ⊎_elim, arith}
 use Rattle.std.proofs.lemmas.Bool.{cases_lt}
 use Rattle.std.proofs.lemmas.List.{length_push, map_push, get_or_append_left, get_or_push}
 use Rattle.std.proofs.Math.Logic.{∥∥₁_map}
@@ -10,12 +10,11 @@ use Rattle.terms.specs.declared.node.Node.{Node}
 use Rattle.terms.specs.declared.number.NodeNo.{NodeNo}
 use Rattle.protocol.specs.declared.step.Action.{Action}
 use Rattle.runs.specs.Protocols.{Protocol, TermAction}
-use Rattle.runs.specs.Runs.{Values, State}
+use Rattle.runs.specs.Runs.{Values}
 use Rattle.runs.specs.Tables.{action_of}
 use Rattle.runs.specs.Valued.{valued}
 use Rattle.playing.specs.Calls.{Situation, Reached, Writable, writing}
 use Rattle.playing.proofs.Running.{writing_good}
-use Rattle.judging.specs.Places.{term_at, values_in}
 use Rattle.bench.specs.Places.{next_in, terms_at, state_in, situation_in, KeptIn, HeldIn, run_places, Placed, Extends}
 use Rattle.bench.specs.declared.standing.Standing.{Standing}
 use Rattle.bench.proofs.Places.{extends_term, extends_told, extends_values}

@@ -1,13 +1,12 @@
 -- The patterns of a sheet's opens and splits.
-use Rattle.std.proofs.Common.{◌≡◌, ℕ, ◌<◌, List, length, Some, None, Option, sym, ap, ap₂, subst, ◌∙◌, arith}
-use Rattle.terms.specs.Terms.{Term, var, pair, seal}
+use Rattle.std.proofs.Common.{◌≡◌, ℕ, ◌<◌, length, Some, sym, ap, ap₂, subst, ◌∙◌, arith}
+use Rattle.terms.specs.Terms.{Term, pair, seal}
 use Rattle.terms.specs.Nodes.{node, says, term, Below}
 use Rattle.terms.specs.declared.node.Node.{Node}
-use Rattle.terms.specs.declared.node.Node.TheVariants.{Name, Env, Var, Pair, Seal}
+use Rattle.terms.specs.declared.node.Node.TheVariants.{Var, Pair, Seal}
 use Rattle.terms.specs.declared.number.NodeNo.{NodeNo}
 use Rattle.terms.specs.declared.number.Variable.{Variable}
 use Rattle.terms.proofs.Unfolding.{unfolds}
-use Rattle.protocol.specs.Lawful.{IsVar, OpenPattern, SplitPattern}
 use Rattle.sheet.specs.Sheets.{content_of}
 use Rattle.sheet.specs.declared.sheet.Sheet.{Sheet}
 use Rattle.bench.specs.Places.{PlainNode}

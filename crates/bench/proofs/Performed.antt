@@ -1,22 +1,20 @@
 -- A step is taken: the tables after it.
-use Rattle.std.proofs.Common.{◌≡◌, ℕ, ◌<◌, ◌≤◌, ◌+◌, ◌*◌, List, [], ◌∷◌, ◌++◌, map, length, get_or, slice_index_or, Some, None, Option, refl, sym, ap, ap₂, subst, ◌∙◌, append-nil, append_assoc, ⊎_elim, arith}
+use Rattle.std.proofs.Common.{◌≡◌, ℕ, ◌<◌, ◌≤◌, List, [], ◌∷◌, ◌++◌, map, length, slice_index_or, Option, refl, sym, ap, ap₂, subst, ◌∙◌, append-nil, ⊎_elim, arith}
 use Rattle.std.proofs.lemmas.Bool.{cases_lt}
 use Rattle.std.proofs.lemmas.List.{length-map, map_push, get_or_past}
 use lib.ListN.{get_or-map}
 use Rattle.std.proofs.Math.Logic.{∥∥₁_map, ∥∥₁_elim}
 use Rattle.std.specs.Coded.{le_prop}
 use Rattle.terms.specs.Terms.{Term}
-use Rattle.terms.specs.Nodes.{term}
 use Rattle.terms.specs.declared.node.Node.{Node}
 use Rattle.terms.specs.declared.number.NodeNo.{NodeNo}
 use Rattle.protocol.specs.Strands.{TermStep, At, step_of}
-use Rattle.protocol.specs.declared.step.Step.{Step}
 use Rattle.protocol.specs.Lawful.{Content, Sound, Lawful}
 use Rattle.protocol.specs.declared.step.Action.{Action}
 use Rattle.sheet.specs.Sheets.{content_of}
 use Rattle.sheet.specs.declared.sheet.Sheet.{Sheet}
 use Rattle.runs.specs.Protocols.{TermAction, Protocol, strand, LawfulProtocol}
-use Rattle.runs.specs.Runs.{Values, State, Does, Moves, moved, onward, messages}
+use Rattle.runs.specs.Runs.{Values, Moves, moved, onward}
 use Rattle.runs.specs.Tables.{action_of, described}
 use Rattle.runs.proofs.Tabling.{described_lawful}
 use Rattle.runs.proofs.Inspecting.{law_told}
@@ -28,10 +26,10 @@ use Rattle.bench.specs.declared.standing.Standing.{Standing}
 use Rattle.bench.specs.declared.effect.Effect.{Effect}
 use Rattle.bench.specs.declared.effect.Effect.TheVariants.{Receive, Send, Open, Split, Agree}
 use Rattle.judging.specs.Places.{values_in}
-use Rattle.bench.specs.Places.{next_in, terms_at, situation_in, state_in, strands_in, run_places, HeldIn, KeptIn, Extends}
+use Rattle.bench.specs.Places.{next_in, terms_at, situation_in, run_places, HeldIn, KeptIn, Extends}
 use Rattle.bench.specs.Effects.{bound, added, acted, EffectHeld, Performs, performed}
 use Rattle.bench.proofs.Places.{extends_term, extends_values}
-use Rattle.bench.proofs.Growth.{extends_run, extends_terms, extends_held, held_push}
+use Rattle.bench.proofs.Growth.{extends_run, extends_terms, held_push}
 
 -- the sheet's protocol is lawful
 pub sheet_lawful : (s : Sheet) → LawfulProtocol (described (content_of s))

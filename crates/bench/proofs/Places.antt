@@ -1,16 +1,15 @@
 -- Values are placed: one, and all that can be told.
-use Rattle.std.proofs.Common.{◌≡◌, ℕ, ◌+◌, ◌<◌, ◌≤◌, List, [], ◌∷◌, ◌++◌, length, get_or, set, slice_index_or, Some, None, Option, Ok, Err, Result, refl, sym, ap, ap₂, subst, ◌∙◌, inl, inr, arith, append_assoc, append-nil, true}
+use Rattle.std.proofs.Common.{◌≡◌, ℕ, ◌+◌, ◌<◌, ◌≤◌, List, [], ◌∷◌, ◌++◌, length, get_or, slice_index_or, Some, None, Option, Ok, Err, Result, refl, sym, ap, ap₂, subst, ◌∙◌, arith, append_assoc, append-nil, true}
 use Rattle.std.specs.Prelude.{slice_set}
 use Rattle.std.specs.Option.{is_some}
-use Rattle.std.specs.List.{sum_by}
 use Rattle.std.proofs.lemmas.Bool.{false≢true}
 use Rattle.std.proofs.lemmas.List.{length_push, length-set, get_or-set_same, get_or-set_other, set-get_or}
 use Rattle.std.proofs.lemmas.List.Sums.{sum_by-set, sum_by-le}
-use mathlib.Core.Option.{Option as Maybe, none, some}
+use mathlib.Core.Option.{Option as Maybe, some}
 use mathlib.Core.Path.{fun_ext}
 use native.Mathlib.Decide.{ℕ_discrete}
 use Rattle.terms.specs.Terms.{Term, pair, seal}
-use Rattle.terms.specs.Nodes.{node, says, term, terms, Ordered, Below}
+use Rattle.terms.specs.Nodes.{node, says, term, Ordered, Below}
 use Rattle.terms.specs.declared.node.Node.{Node}
 use Rattle.terms.specs.declared.node.Node.TheVariants.{Name, Env, Var, Pair, Seal}
 use Rattle.terms.specs.declared.number.NodeNo.{NodeNo}
@@ -26,7 +25,7 @@ use Rattle.runs.specs.Runs.{Values}
 use Rattle.runs.specs.Valued.{valued, both}
 use Rattle.judging.specs.Places.{term_at, values_in}
 use Rattle.judging.proofs.Reading.{law_of}
-use Rattle.bench.specs.Places.{KeptIn, Placed, one, count, Extends, PlainNode, said_by, PlacesValue, Swept}
+use Rattle.bench.specs.Places.{KeptIn, one, count, Extends, PlainNode, said_by, PlacesValue, Swept}
 
 -- a lawful node is put where there is room, and its term is the value placed
 pub put_ok : (ns ms : List Node) (n : Node) (r : Result NodeNo PutFault) → Lawful (length ns) n → length ns < most_nodes → ((noted : List ℕ) → Put ns noted n r ms noted) → (p : NodeNo) × (r ≡ Ok p) × PlacesValue ns (some (says (term ns) n)) (Some p) ms

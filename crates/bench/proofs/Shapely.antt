@@ -1,7 +1,7 @@
 -- What the page at a place tells of the term there.
-use Rattle.std.proofs.Common.{◌≡◌, ℕ, ◌<◌, List, length, Some, None, Option, sym, ap, subst, ◌∙◌, arith}
-use Rattle.terms.specs.Terms.{Term, name, env, var, pair, seal}
-use Rattle.terms.specs.Nodes.{node, says, term, Below}
+use Rattle.std.proofs.Common.{◌≡◌, ℕ, ◌<◌, List, length, Some, None, Option, sym, subst, ◌∙◌, arith}
+use Rattle.terms.specs.Terms.{pair, seal}
+use Rattle.terms.specs.Nodes.{says, term, Below}
 use Rattle.terms.specs.declared.node.Node.{Node}
 use Rattle.terms.specs.declared.node.Node.TheVariants.{Name, Env, Var, Pair, Seal}
 use Rattle.terms.specs.declared.number.NodeNo.{NodeNo}

@@ -1,5 +1,5 @@
 -- Where the strands stand.
-use Rattle.std.proofs.Common.{◌≡◌, ℕ, zero, suc, ◌+◌, ◌<◌, ◌≤◌, Bool, true, false, cond, T, eqb, eqb→eq, slice_set, List, [], ◌∷◌, map, length, get_or, slice_index_or, Some, None, Option, Ok, Err, Result, Bor, option_copied, refl, sym, ap, subst, ◌∙◌, arith}
+use Rattle.std.proofs.Common.{◌≡◌, ℕ, zero, suc, ◌+◌, ◌<◌, Bool, true, false, cond, T, eqb, eqb→eq, slice_set, List, [], ◌∷◌, map, length, get_or, slice_index_or, Some, None, Option, Bor, option_copied, refl, sym, ap, ◌∙◌, arith}
 use Rattle.std.specs.Slice.{IsItemAt}
 use Rattle.std.specs.Option.{ok_or}
 use Rattle.std.proofs.lemmas.Bool.{ltb-true, ltb-false}
@@ -12,10 +12,9 @@ use Rattle.runs.proofs.Values.{onward_here}
 use mathlib.Core.Option.{some}
 use lib.ListN.{get_elem?}
 use Rattle.protocol.specs.declared.step.Step.{Step}
-use Rattle.protocol.specs.Strands.{steps_of, At}
+use Rattle.protocol.specs.Strands.{steps_of}
 use Rattle.protocol.specs.Lawful.{Content}
 use Rattle.playing.specs.Calls.{Situation}
-use Rattle.playing.specs.declared.faults.StepFault.{StepFault}
 use Rattle.playing.specs.declared.faults.StepFault.TheVariants.{Finished}
 use Rattle.bench.specs.Places.{next_in, strands_in}
 use Rattle.bench.specs.Steps.{StepAt, NextStep}

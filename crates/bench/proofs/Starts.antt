@@ -1,11 +1,8 @@
 -- A bench is opened: no strand has moved, no variable has a value, nothing is written.
-use Rattle.std.proofs.Common.{◌≡◌, ℕ, zero, suc, ◌∷◌, ◌<◌, ◌+◌, ◌≤◌, List, [], map, length, slice_index_or, Some, None, Option, refl, sym, ap, ap₂, subst, ◌∙◌, arith}
+use Rattle.std.proofs.Common.{◌≡◌, ℕ, zero, suc, ◌∷◌, List, [], map, length, slice_index_or, None, Option, refl, sym, ap, ap₂, subst, ◌∙◌, arith}
 use Rattle.std.specs.Prelude.{replicate}
 use Rattle.std.proofs.lemmas.Grind.{common_steps}
-use mathlib.Core.Option.{none}
 use mathlib.Core.Path.{fun_ext}
-use Rattle.terms.specs.Terms.{Term}
-use Rattle.terms.specs.Nodes.{at}
 use Rattle.terms.specs.declared.node.Node.{Node}
 use Rattle.terms.specs.declared.number.NodeNo.{NodeNo}
 use Rattle.protocol.specs.declared.step.Action.{Action}
@@ -13,10 +10,10 @@ use Rattle.protocol.specs.declared.step.Step.{Step}
 use Rattle.protocol.specs.declared.strand.Strand.{Strand}
 use Rattle.protocol.specs.Strands.{steps_of}
 use Rattle.runs.specs.Protocols.{Protocol}
-use Rattle.runs.specs.Runs.{Values, nowhere, stop}
+use Rattle.runs.specs.Runs.{Values, stop}
 use Rattle.playing.specs.Calls.{Situation, opened, Reached}
-use Rattle.judging.specs.Places.{term_at, values_in}
-use Rattle.bench.specs.Places.{next_in, strands_in, standing_first, situation_in, KeptIn, Placed, count, Swept}
+use Rattle.judging.specs.Places.{term_at}
+use Rattle.bench.specs.Places.{next_in, strands_in, standing_first, situation_in, KeptIn, Placed, Swept}
 use Rattle.bench.specs.declared.standing.Standing.{Standing}
 use Rattle.bench.proofs.Places.{extends_values}
 

@@ -1,5 +1,5 @@
 -- Whether a step can be taken, told by the places of values.
-use Rattle.std.proofs.Common.{◌≡◌, ℕ, ◌<◌, List, [], ◌∷◌, length, Some, None, Option, Result, refl, sym, ap, subst, ◌∙◌, arith, slice_index_or}
+use Rattle.std.proofs.Common.{◌≡◌, ℕ, ◌<◌, List, [], ◌∷◌, length, Some, None, Option, Result, sym, ap, subst, ◌∙◌, arith, slice_index_or}
 use mathlib.Core.Option.{Option as Maybe, none, some, some-injective}
 use Rattle.terms.specs.Terms.{Term, pair, seal, Message}
 use Rattle.terms.specs.Nodes.{term}
@@ -12,7 +12,7 @@ use Rattle.protocol.specs.declared.step.Action.{Action}
 use Rattle.protocol.specs.declared.step.Direction.{Direction}
 use Rattle.protocol.specs.declared.step.Direction.TheVariants.{Output}
 use Rattle.runs.specs.Protocols.{TermAction}
-use Rattle.runs.specs.Runs.{Values, Means, Does, put_out, opened, halved, agreed}
+use Rattle.runs.specs.Runs.{Values, Does, put_out, opened, halved, agreed}
 use Rattle.runs.specs.Valued.{valued}
 use Rattle.runs.proofs.Valuing.{means_valued, valued_means}
 use Rattle.std.specs.Option.{ok_or}
@@ -20,8 +20,7 @@ use Rattle.playing.specs.Calls.{IsInput}
 use Rattle.playing.specs.declared.faults.StepFault.{StepFault}
 use Rattle.playing.specs.declared.faults.StepFault.TheVariants.{Stuck}
 use Rattle.bench.specs.declared.effect.Effect.{Effect}
-use Rattle.judging.specs.Places.{term_at, values_in, PartsAt}
-use Rattle.bench.specs.Places.{KeptIn, Placed}
+use Rattle.judging.specs.Places.{term_at, PartsAt}
 use Rattle.bench.specs.Effects.{ValueAt, DoneBy, TakenBy, OpenedBy, SplitBy}
 use Rattle.bench.specs.Tables.{sheet_in, nodes_of, situation}
 use Rattle.bench.specs.declared.tables.Tables.{Tables}

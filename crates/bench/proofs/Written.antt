@@ -1,13 +1,13 @@
 -- What is written, and what a node more does.
-use Rattle.std.proofs.Common.{◌≡◌, ℕ, zero, suc, ◌<◌, ◌≤◌, ◌+◌, List, [], ◌∷◌, ◌++◌, map, length, get_or, slice_index_or, Some, None, Option, Bor, option_copied, refl, sym, ap, ap₂, subst, ◌∙◌, arith}
+use Rattle.std.proofs.Common.{◌≡◌, ℕ, ◌<◌, List, length, slice_index_or, Some, None, Option, Bor, option_copied, sym, ap, subst, ◌∙◌, arith}
 use Rattle.std.specs.Slice.{IsItemAt}
 use Rattle.std.proofs.lemmas.Bool.{ltb-true, ltb-false}
-use Rattle.std.proofs.lemmas.List.{length-map, get_or-map, get_or_read}
-use Rattle.terms.specs.Terms.{Term, name}
-use Rattle.terms.specs.Nodes.{at, term}
+use Rattle.std.proofs.lemmas.List.{get_or-map, get_or_read}
+use Rattle.terms.specs.Terms.{name}
+use Rattle.terms.specs.Nodes.{term}
 use Rattle.terms.specs.declared.node.Node.{Node}
 use Rattle.terms.specs.declared.number.NodeNo.{NodeNo}
-use Rattle.bench.specs.Places.{terms_at, HeldIn}
+use Rattle.bench.specs.Places.{HeldIn}
 use Rattle.bench.specs.Steps.{PageOf}
 use Rattle.bench.specs.Tables.{nodes_of}
 use Rattle.bench.specs.declared.tables.Tables.{Tables}

@@ -1,5 +1,5 @@
 -- What a bench and an ended run mean.
-use Rattle.std.specs.Prelude.{ℕ, List, length}
+use Rattle.std.specs.Prelude.{List}
 use Rattle.terms.specs.declared.node.Node.{Node}
 use Rattle.protocol.specs.Lawful.{Content}
 use Rattle.runs.specs.Protocols.{Protocol}

@@ -1,5 +1,5 @@
 -- What lists of places mean over a table of nodes.
-use Rattle.std.specs.Prelude.{◌≡◌, ℕ, ◌<◌, ◌≤◌, ◌+◌, List, [], ◌∷◌, ◌++◌, map, length, Some, None, Option, slice_index_or}
+use Rattle.std.specs.Prelude.{◌≡◌, ℕ, ◌<◌, ◌≤◌, ◌+◌, List, ◌++◌, map, length, Some, None, Option, slice_index_or}
 use Rattle.std.specs.Coded.{Π_prop, →_prop}
 use Rattle.std.specs.List.{sum_by}
 use Rattle.std.proofs.Math.Option.{Option as Maybe, none, some}

@@ -1,4 +1,4 @@
-use Rattle.std.proofs.Common.{◌≡◌, List, sym, ap, ◌∙◌}
+use Rattle.std.proofs.Common.{List, sym, ap, ◌∙◌}
 use Rattle.terms.specs.Nodes.{node}
 use Rattle.terms.specs.declared.node.Node.{Node}
 use Rattle.bench.proofs.Patterned.{opened_by}

@@ -1,4 +1,3 @@
-use Rattle.std.proofs.Common.{length}
 use Rattle.pages.specs.Pages.{nodes_on}
 use Rattle.sheet.specs.Sheets.{content_of}
 use Rattle.bench.specs.Places.{Swept}

@@ -1,8 +1,6 @@
-use Rattle.std.proofs.Common.{◌≡◌, ◌∙◌, Ok, Result, rules, refl, subst, sym}
+use Rattle.std.proofs.Common.{◌≡◌, ◌∙◌, Ok, rules, refl, subst, sym}
 use Rattle.std.specs.Result.{IsOk}
-use Rattle.terms.specs.declared.number.NodeNo.{NodeNo}
 use Rattle.bench.proofs.Places.{put_ok, ok_is}
-use Rattle.bench.specs.Places.{PlacesValue}
 use Rattle.bench.proofs.placing.put.Goals as goal
 
 pub unwrap-requires : goal.unwrap-requires

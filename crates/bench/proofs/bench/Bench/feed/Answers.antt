@@ -1,13 +1,10 @@
-use Rattle.std.proofs.Common.{◌≡◌, Some, None, Ok, Err, true, false, rules, refl, sym, ap, ◌∙◌}
+use Rattle.std.proofs.Common.{◌≡◌, Some, None, rules, refl, sym, ◌∙◌}
 use Rattle.std.proofs.lemmas.Result.{err_from_is_err_and}
 use Rattle.std.proofs.lemmas.Bool.{false≢true}
-use Rattle.derivation.specs.Derive.{Derives}
-use Rattle.derivation.specs.Noted.{noted_terms}
-use Rattle.terms.specs.Nodes.{term}
 use Rattle.playing.specs.declared.faults.StepFault.TheVariants.{NotWritten}
 use Rattle.bench.specs.Steps.{noted_in}
 use Rattle.bench.specs.Steps.{PageOf}
-use Rattle.bench.specs.Tables.{sheet_in, protocol_in, nodes_of, situation}
+use Rattle.bench.specs.Tables.{protocol_in, nodes_of, situation}
 use Rattle.bench.proofs.Calling.{derivable_told, fed_performs, fed_well, not_written, not_derivable}
 use Rattle.bench.proofs.bench.Bench.feed.Goals as goal
 

@@ -1,9 +1,9 @@
-use Rattle.std.proofs.Common.{◌≡◌, Err, rules, sym, subst, ◌∙◌}
+use Rattle.std.proofs.Common.{Err, rules}
 use Rattle.std.proofs.lemmas.Result.{err_from_is_err_and}
 use Rattle.protocol.specs.Strands.{step_of}
 use Rattle.playing.specs.Calls.{IsInput}
-use Rattle.bench.specs.Tables.{sheet_in, protocol_in, situation}
-use Rattle.bench.specs.Steps.{NextStep, InputAt}
+use Rattle.bench.specs.Tables.{sheet_in, situation}
+use Rattle.bench.specs.Steps.{NextStep}
 use Rattle.bench.proofs.Places.{sound_of}
 use Rattle.bench.proofs.Following.{input_refused, input_next, other_next}
 use Rattle.bench.proofs.tables.Tables.input.Goals as goal

@@ -1,8 +1,7 @@
 use Rattle.std.proofs.Common.{rules, ◌≡◌, map, [], ◌∙◌, ap}
 use Rattle.sheet.specs.Sheets.{content_of}
-use Rattle.playing.specs.Calls.{opened}
 use Rattle.pages.specs.Pages.{nodes_on}
-use Rattle.bench.specs.Places.{situation_in, strands_in, standing_first}
+use Rattle.bench.specs.Places.{strands_in, standing_first}
 use Rattle.bench.proofs.Starts.{swept_placed, opened_reached, opens, first_strands}
 use Rattle.bench.proofs.Places.{none_kept}
 use Rattle.bench.proofs.tables.Tables.open.Goals as goal

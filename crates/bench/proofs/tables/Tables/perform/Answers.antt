@@ -1,14 +1,11 @@
-use Rattle.std.proofs.Common.{◌≡◌, ℕ, ◌<◌, List, arith, length, sym, ap, ◌∙◌, subst}
+use Rattle.std.proofs.Common.{◌≡◌, ℕ, arith, sym, ◌∙◌, subst}
 use Rattle.std.proofs.lemmas.List.{length-map}
 use mathlib.Core.Option.{some}
 use Rattle.terms.specs.Terms.{Term}
-use Rattle.protocol.specs.declared.step.Action.{Action}
 use Rattle.pages.specs.Pages.{nodes_on}
-use Rattle.runs.specs.Runs.{Values, onward}
+use Rattle.runs.specs.Runs.{Values}
 use Rattle.runs.specs.Tables.{action_of}
-use Rattle.bench.specs.declared.standing.Standing.{Standing}
 use Rattle.judging.specs.Places.{values_in}
-use Rattle.bench.specs.Places.{next_in, strands_in}
 use Rattle.bench.specs.Tables.{sheet_in, nodes_of, situation, protocol_in}
 use Rattle.judging.proofs.Reading.{law_of}
 use Rattle.bench.proofs.Places.{extends_kept, sound_of}

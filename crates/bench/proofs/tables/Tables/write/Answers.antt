@@ -1,10 +1,9 @@
-use Rattle.std.proofs.Common.{rules, arith, ◌≡◌, ◌<◌, ◌++◌, ◌∷◌, [], length, Some, ap, subst, sym, ◌∙◌}
+use Rattle.std.proofs.Common.{rules, arith, length, Some, ap, subst, sym, ◌∙◌}
 use Rattle.std.proofs.lemmas.List.{length-map}
-use Rattle.terms.specs.Nodes.{says, at, term}
+use Rattle.terms.specs.Nodes.{term}
 use Rattle.terms.specs.declared.number.NodeNo.{NodeNo}
 use Rattle.pages.specs.Pages.{nodes_on}
-use Rattle.playing.specs.Calls.{Wrote, Situation, writing}
-use Rattle.bench.specs.Places.{terms_at, situation_in, HeldIn}
+use Rattle.bench.specs.Places.{situation_in, HeldIn}
 use Rattle.bench.specs.Steps.{Turned}
 use Rattle.bench.specs.Tables.{sheet_in, nodes_of, situation, protocol_in}
 use Rattle.bench.proofs.Places.{count_small, extends_kept}
