@@ -55,7 +55,7 @@ atom_prop (var x) = λ a b. refl
 atom_prop (pair a b) = λ p q. absurd p
 atom_prop (seal b k) = λ p q. absurd p
 
-message_prop : (t : Term) → IsProp (Message t)
+pub message_prop : (t : Term) → IsProp (Message t)
 message_prop (name n) = λ a b. refl
 message_prop (env n) = λ a b. refl
 message_prop (var x) = λ a b. refl

@@ -10,3 +10,4 @@ pub mod Bound
 pub mod Performed
 pub mod Following
 pub mod Calling
+pub mod Judged

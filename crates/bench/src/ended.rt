@@ -1,12 +1,15 @@
 // An ended run: it is looked at and judged, and goes no further.
 ghost use Rattle.std.specs.Prelude.{◌≡◌, map};
 ghost use Rattle.terms.specs.Nodes.{Found};
-ghost use Rattle.runs.specs.Tables.{action_of};
+ghost use Rattle.runs.specs.Tables.{action_of, described};
+ghost use Rattle.playing.specs.Verdicts.{VerdictOf};
 ghost use Rattle.bench.specs.Benches.{sheet_of, situation_of, nodes_of, sheet_ended, situation_ended, nodes_ended};
 
 use crate::bench::Bench;
 use crate::tables::Tables;
+use judging::judge;
 use notebook::Notebook;
+use playing::Verdict;
 use protocol::Action;
 use terms::{Node, NodeNo};
 
@@ -54,5 +57,13 @@ impl EndedRun {
         ensures { Found (nodes_ended self.now) place.0 result }
     {
         self.tables.pages.get(place).map(|page| page.node)
+    }
+
+    // Whether the run breaks the property of its sheet.
+    pub fn judgement(&self) -> Verdict
+        ensures { VerdictOf (described (sheet_ended self.now)) (situation_ended self.now).state.run result }
+    {
+        let tables = &self.tables;
+        judge(&tables.sheet, &tables.pages, &tables.run).unwrap()
     }
 }

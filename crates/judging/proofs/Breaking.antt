@@ -34,7 +34,7 @@ mapped_at f (x ∷ xs) b m =
       | inr n ↦ let h = mapped_at f xs b n in (suc h.0, omega (arith, h.1), h.2)
     ]
 
-at_mapped : {A B : Type 0} (f : A → B) (xs : List A) (k : ℕ) (d : A) → k < length xs → Memᴰ (f (get_or xs k d)) (map f xs)
+pub at_mapped : {A B : Type 0} (f : A → B) (xs : List A) (k : ℕ) (d : A) → k < length xs → Memᴰ (f (get_or xs k d)) (map f xs)
 at_mapped f [] k d l = absurd (omega (arith, l))
 at_mapped f (x ∷ xs) zero d l = Memᴰ.head refl
 at_mapped f (x ∷ xs) (suc k) d l = Memᴰ.tail (at_mapped f xs k d (omega (arith, l)))

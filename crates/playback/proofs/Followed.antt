@@ -19,7 +19,8 @@ use Rattle.replays.specs.declared.faults.RunFault.TheVariants.{File, Kind, Limit
 use Rattle.replays.specs.declared.faults.BenchFault.{BenchFault}
 use Rattle.replays.specs.declared.faults.ReplayFault.{ReplayFault}
 use Rattle.replays.specs.declared.faults.ReplayFault.TheVariants.{Run, Bench}
-use Rattle.playback.specs.Following.{Followed, Sofar}
+use Rattle.playback.specs.Following.{Followed, PlayedOut, Sofar}
+use Rattle.bench.specs.declared.ended.EndedRun.{EndedRun}
 
 -- before the first line
 pub sofar_none : (names : ℕ) (S : Protocol) (bs cs : List ℕ) (n s : ℕ) (u : Situation) → n ≡ 0 → s ≡ 0 → u ≡ opened → cs ≡ bs → Sofar names S bs n s u cs
@@ -63,3 +64,6 @@ sofar_stopped names S bs cs ds n s m t k j p u v l f e h x g = h.2 _ (stopped (l
 -- of the sheet that the bench was opened on
 pub followed_on : (C D : Content) (l : lines.Line) (u v : Situation) (r : Result (Unit {0}) BenchFault) → D ≡ C → Followed (length D.names) (described D) l u r v → Followed (length C.names) (described C) l u r v
 followed_on C D l u v r e h = subst (λ (z : Content). Followed (length z.names) (described z) l u r v) e h
+
+pub played_on : (C D : Content) (bs : List ℕ) (r : Result EndedRun ReplayFault) → D ≡ C → PlayedOut (length D.names) (described D) bs r → PlayedOut (length C.names) (described C) bs r
+played_on C D bs r e h = subst (λ (z : Content). PlayedOut (length z.names) (described z) bs r) e h

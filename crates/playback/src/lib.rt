@@ -2,6 +2,7 @@
 #![tactic(auto)]
 
 mod calls;
-mod replay;
+mod replaying;
 
 pub use calls::play;
+pub use replaying::replay;

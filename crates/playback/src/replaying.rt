@@ -3,6 +3,8 @@ ghost use Rattle.std.specs.Prelude.{◌≡◌, length, IfOk};
 ghost use Rattle.sheet.specs.Sheets.{content_of};
 ghost use Rattle.runs.specs.Tables.{described};
 ghost use Rattle.playing.specs.Calls.{opened};
+ghost use Rattle.replays.specs.Laws.{OneReplay};
+ghost use Rattle.replays.specs.Replaying.{Replays};
 ghost use Rattle.replays.specs.Decoding.{line_of};
 ghost use Rattle.replays.specs.Reading.{left, nodes_read, steps_read, records_read};
 ghost use Rattle.bench.specs.Benches.{sheet_of, protocol_of, situation_of, sheet_ended};
@@ -10,8 +12,10 @@ ghost use Rattle.playback.specs.Following.{Followed, PlayedOut};
 
 use bench::{Bench, EndedRun};
 use notebook::Notebook;
-use playing::WriteFault;
+use playing::{Verdict, WriteFault};
 use replays::{BenchFault, Line, ReplayFault, RunReader};
+use sheet::Sheet;
+use std::alloc::{AllocError, Global};
 use terms::{Node, NodeNo};
 
 // in place of a place, where a step is a move
@@ -49,4 +53,23 @@ fn run_through<N: Notebook + Drop>(bench: Bench<N>, bytes: &[u8]) -> Result<Ende
         record += 1;
     }
     Ok(bench.end())
+}
+
+// Replays a run file: opens a bench, makes each record's call in turn, ends it, and answers how the run is judged, or the
+// first fault. The notebook is used up.
+#[tactic(auto, using(replays::proofs::Once::one_replay, crate::proofs::Followed::played_on))]
+pub fn replay<N: Notebook + Drop>(
+    heap: Global,
+    sheet: &Sheet,
+    book: N,
+    bytes: &[u8],
+) -> Result<Result<Verdict, ReplayFault>, AllocError>
+    ensures replays { let C = content_of sheet.now in IfOk result (λ r. Replays (length C.names) (described C) bytes.now r) }
+    ensures one { OneReplay }
+{
+    let bench = Bench::open(heap, sheet, book)?;
+    match run_through(bench, bytes) {
+        Ok(ended) => Ok(Ok(ended.judgement())),
+        Err(fault) => Ok(Err(fault)),
+    }
 }

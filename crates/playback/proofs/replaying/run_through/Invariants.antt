@@ -2,7 +2,7 @@ use Rattle.std.proofs.Common.{◌≡◌, ◌+◌, length}
 use Rattle.replays.specs.Reading.{left, nodes_read, steps_read, records_read}
 use Rattle.bench.specs.Benches.{sheet_of, protocol_of, situation_of}
 use Rattle.playback.specs.Following.{Sofar}
-use Rattle.playback.proofs.replay.run_through.Given as goal
+use Rattle.playback.proofs.replaying.run_through.Given as goal
 
 abbrev pub invariant-loop-bench : goal.invariant-loop-bench
 invariant-loop-bench g l =

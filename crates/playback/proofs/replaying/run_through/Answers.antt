@@ -10,7 +10,7 @@ use Rattle.replays.specs.declared.faults.RunFault.{RunFault}
 use Rattle.bench.specs.Benches.{sheet_of, protocol_of, situation_of}
 use Rattle.playback.specs.Following.{Followed}
 use Rattle.playback.proofs.Followed.{sofar_fault, sofar_stopped, sofar_more, sofar_end, count_more, read_more, followed_on}
-use Rattle.playback.proofs.replay.run_through.Goals as goal
+use Rattle.playback.proofs.replaying.run_through.Goals as goal
 
 pub returns-in_err-line-clause-played : goal.returns-in_err-line-clause-played
 returns-in_err-line-clause-played g c =
