@@ -1,5 +1,5 @@
 -- Where the strands stand.
-use Rattle.std.proofs.Common.{◌≡◌, ℕ, zero, suc, ◌+◌, ◌<◌, Bool, true, false, cond, T, eqb, eqb→eq, slice_set, List, [], ◌∷◌, map, length, get_or, slice_index_or, Some, None, Option, Bor, option_copied, refl, sym, ap, ◌∙◌, arith}
+use Rattle.std.proofs.Common.{◌≡◌, ℕ, suc, ◌+◌, ◌<◌, Bool, true, false, cond, T, eqb, eqb→eq, slice_set, List, [], map, length, get_or, slice_index_or, Some, None, Option, Bor, option_copied, refl, sym, ap, ◌∙◌, arith}
 use Rattle.std.specs.Slice.{IsItemAt}
 use Rattle.std.specs.Option.{ok_or}
 use Rattle.std.proofs.lemmas.Bool.{ltb-true, ltb-false}
@@ -11,6 +11,7 @@ use Rattle.runs.specs.Runs.{onward}
 use Rattle.runs.proofs.Values.{onward_here}
 use mathlib.Core.Option.{some}
 use lib.ListN.{get_elem?}
+use Rattle.lifting.proofs.Lists.{get_some}
 use Rattle.protocol.specs.declared.step.Step.{Step}
 use Rattle.protocol.specs.Strands.{steps_of}
 use Rattle.protocol.specs.Lawful.{Content}
@@ -19,11 +20,6 @@ use Rattle.playing.specs.declared.faults.StepFault.TheVariants.{Finished}
 use Rattle.bench.specs.Places.{next_in, strands_in}
 use Rattle.bench.specs.Steps.{StepAt, NextStep}
 use Rattle.bench.specs.declared.standing.Standing.{Standing}
-
-get_some : (ps : List Step) (i : ℕ) (d : Step) → i < length ps → get_elem? ps i ≡ some (get_or ps i d)
-get_some [] i d l = absurd (omega (arith, l))
-get_some (p ∷ ps) zero d l = refl
-get_some (p ∷ ps) (suc i) d l = get_some ps i d (omega (arith, l))
 
 pub step_at : (ps : List Step) (i : ℕ) (r : Option (Bor Step)) → IsItemAt ps i r → StepAt ps i (option_copied r)
 step_at ps i None h = omega (arith, ltb-false _ _ (sym h.0))

@@ -3,7 +3,7 @@ use Rattle.std.specs.Prelude.{◌≡◌, ℕ, ◌+◌, ◌^◌, ◌<◌, ◌≤�
 use Rattle.terms.specs.Tables.{nodes_in}
 use Rattle.terms.specs.declared.node.Node.{Node}
 use Rattle.terms.specs.Terms.{Term}
-use Rattle.unification.specs.Bindings.{val, Instance, Once, FreeValues, Extends}
+use Rattle.unification.specs.Bindings.{val, Instance, Within, Once, Ranked, FreeValues, Extends}
 use Rattle.unification.specs.Classes.{Each, Across, Alike, Solved, Unsolvable}
 use Rattle.unification.specs.Steps.{Room}
 use Rattle.unification.specs.declared.ask.Ask.{Ask}
@@ -22,10 +22,12 @@ nodes_of m = nodes_in m.solver.nodes
 abbrev pub bound : Matching → List Binding
 bound m = vec_items m.solver.bindings.list
 
--- the most general bindings given, as far as they are known: no variable is bound twice, none occurs in its own value, and
--- every assignment of the unbound variables extends to exactly one instance
+-- the most general bindings given, as far as they are known: no variable is bound twice, each to a node of the table, none
+-- occurs in its own value, and every assignment of the unbound variables extends to exactly one instance
 pub record MostGeneral (ns : List Node) (B : List Binding) : Type 0 where
   pub once : Once B
+  pub within : Within ns B
+  pub ranked : Ranked ns B
   pub free : FreeValues ns B
   pub extends : Extends ns B
 

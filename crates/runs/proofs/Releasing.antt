@@ -144,7 +144,7 @@ key_message (pair a b) h = absurd h
 key_message (seal a b) h = absurd h
 
 -- a part of a message is one
-part_message : (ρ : ℕ → Term) (t : Term) → Message (inst ρ t) → (x : ℕ) → Occurs x t → Message (ρ x)
+pub part_message : (ρ : ℕ → Term) (t : Term) → Message (inst ρ t) → (x : ℕ) → Occurs x t → Message (ρ x)
 part_message ρ (name n) h x o = absurd o
 part_message ρ (env n) h x o = absurd o
 part_message ρ (var y) h x o = subst (λ (z : ℕ). Message (ρ z)) (sym o) h

@@ -72,10 +72,10 @@ module _ (C : Content) (law : Sound C) where
   plain_below zero i h l = absurd (not-suc-le-zero h)
   plain_below (suc n) i h l = subst (λ (t : Term). Plain t) (sym (unfolded i l)) (plain_says i l (node C.nodes i) (law.nodes_stand i l) (λ j g. plain_below n j (omega arith) (omega arith)))
 
-  plain : (i : ℕ) → i < length C.nodes → Plain (term C.nodes i)
+  pub plain : (i : ℕ) → i < length C.nodes → Plain (term C.nodes i)
   plain i h = plain_below (suc i) i (omega arith) h
 
-  small_variable : (x : ℕ) → x < length C.variables → x < 64
+  pub small_variable : (x : ℕ) → x < length C.variables → x < 64
   small_variable x h = let few = law.few_variables in omega arith
 
   small_says : (i : ℕ) (n : Node) → NodeLaw C i n → ((j : ℕ) → j < i → Small (term C.nodes j)) → Small (says (term C.nodes) n)
@@ -100,7 +100,7 @@ module _ (C : Content) (law : Sound C) where
   var_term b h (Seal c d) e v = absurd v
 
   -- an open's pattern is a variable under a seal
-  open_term : (p : ℕ) → p < length C.nodes → (n : Node) → node C.nodes p ≡ n → OpenPattern C.nodes n → (x : ℕ) × (u : Term) × (term C.nodes p ≡ seal (var x) u)
+  pub open_term : (p : ℕ) → p < length C.nodes → (n : Node) → node C.nodes p ≡ n → OpenPattern C.nodes n → (x : ℕ) × (u : Term) × (term C.nodes p ≡ seal (var x) u)
   open_term p h (Name n) e o = absurd o
   open_term p h (Env n) e o = absurd o
   open_term p h (Var x) e o = absurd o
@@ -123,7 +123,7 @@ module _ (C : Content) (law : Sound C) where
   apart_terms a b h g (Seal c m) n e f d = absurd d
 
   -- a split's pattern is a pair of two variables
-  split_term : (p : ℕ) → p < length C.nodes → (n : Node) → node C.nodes p ≡ n → SplitPattern C.nodes n → (x : ℕ) × (y : ℕ) × (x ≡ y → ⊥) × (term C.nodes p ≡ pair (var x) (var y))
+  pub split_term : (p : ℕ) → p < length C.nodes → (n : Node) → node C.nodes p ≡ n → SplitPattern C.nodes n → (x : ℕ) × (y : ℕ) × (x ≡ y → ⊥) × (term C.nodes p ≡ pair (var x) (var y))
   split_term p h (Name n) e o = absurd o
   split_term p h (Env n) e o = absurd o
   split_term p h (Var x) e o = absurd o

@@ -11,7 +11,7 @@ use lib.Seq.{get_or-take}
 use Rattle.terms.specs.Terms.{Vars}
 use Rattle.terms.specs.Nodes.{term, node}
 use Rattle.terms.specs.declared.node.Node.{Node}
-use Rattle.unification.specs.Bindings.{no_binding, variable_at, node_at, Within, Once, Forward, Good}
+use Rattle.unification.specs.Bindings.{no_binding, variable_at, node_at, Within, Once, Forward, Ranked, Good}
 use Rattle.unification.specs.declared.binding.Binding.{Binding}
 
 module _ (ns : List Node) (B : List Binding) (g : ∥ Good ns B ∥₁) where
@@ -20,6 +20,9 @@ module _ (ns : List Node) (B : List Binding) (g : ∥ Good ns B ∥₁) where
 
   pub good_once : Once B
   good_once = ∥∥₁_elim g (Π_prop (λ j. Π_prop (λ k. Π_prop (λ h. Π_prop (λ l. Π_prop (λ e. ⊥_prop)))))) (λ k. k.once)
+
+  pub good_ranked : Ranked ns B
+  good_ranked = ∥∥₁_map g (λ k. (k.rank, k.falls))
 
   pub good_forward : Forward ns B
   good_forward = ∥∥₁_elim g (Π_prop (λ j. Π_prop (λ k. Π_prop (λ x. Π_prop (λ h. Π_prop (λ l. Π_prop (λ e. Π_prop (λ f. ⊥_prop)))))))) (λ k. k.forward)

@@ -52,6 +52,10 @@ Forward ns B = (j k x : ℕ) → j ≤ k → k < length B → node ns (node_at B
 abbrev pub Falls : List Node → List Binding → (ℕ → ℕ) → Type 0
 Falls ns B r = (k : ℕ) → k < length B → Vars (λ y. r y < r (variable_at B k)) (term ns (node_at B k))
 
+-- some rank falls so; which one need not be known
+abbrev pub Ranked : List Node → List Binding → Type 0
+Ranked ns B = ∥ ((r : ℕ → ℕ) × Falls ns B r) ∥₁
+
 -- bindings as matching makes them
 pub record Good (ns : List Node) (B : List Binding) : Type 0 where
   pub within : Within ns B

@@ -1,0 +1,9 @@
+pub mod Subsets
+pub mod Keying
+pub mod Instances
+pub mod Asking
+pub mod Following
+pub mod Ranking
+pub mod Beginnings
+pub mod Sheets
+pub mod Limiting

@@ -1,0 +1,5 @@
+pub mod Keys
+pub mod Demands
+pub mod Following
+pub mod Beginnings
+pub mod Limits

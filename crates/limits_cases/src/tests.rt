@@ -1,0 +1,5 @@
+// A module for each kind of case.
+mod keys;
+mod known;
+mod large;
+mod support;
