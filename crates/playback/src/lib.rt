@@ -5,4 +5,4 @@ mod calls;
 mod replaying;
 
 pub use calls::play;
-pub use replaying::replay;
+pub use replaying::{follow, replay};

@@ -21,8 +21,8 @@ use terms::{Node, NodeNo};
 // in place of a place, where a step is a move
 const NO_PLACE: NodeNo = NodeNo(65535);
 
-// Makes the call of a line.
-fn follow<N: Notebook + Drop>(bench: &mut Bench<N>, line: Line) -> Result<(), BenchFault>
+// Makes the call of a line on a bench.
+pub fn follow<N: Notebook + Drop>(bench: &mut Bench<N>, line: Line) -> Result<(), BenchFault>
     ensures followed { Followed (length (sheet_of bench.old).names) (protocol_of bench.old) (line_of line) (situation_of bench.old) result (situation_of bench.new) }
     ensures sheet { sheet_of bench.new ≡ sheet_of bench.old }
 {
