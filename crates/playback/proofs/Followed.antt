@@ -1,18 +1,18 @@
 -- A run file is followed line by line.
-use Rattle.std.proofs.Common.{◌≡◌, ℕ, ◌+◌, ◌<◌, ◌≤◌, List, [], ◌∷◌, ◌++◌, length, Some, None, Option, Ok, Err, Result, refl, sym, ap, subst, ◌∙◌, arith}
+use Rattle.std.proofs.Common.{◌≡◌, ℕ, ◌+◌, ◌≤◌, List, length, Some, None, Option, Ok, Err, Result, refl, ap, subst, ◌∙◌, arith}
 use Rattle.runs.specs.Protocols.{Protocol}
 use Rattle.runs.specs.Tables.{described}
 use Rattle.protocol.specs.Lawful.{Content}
 use Rattle.playing.specs.Calls.{Situation, opened}
 use Rattle.playing.specs.Verdicts.{VerdictOf}
 use Rattle.playing.specs.declared.verdict.Verdict.{Verdict}
-use Rattle.records.specs.Bytes.{Rec, encode}
 use Rattle.records.specs.declared.record.FileFault.TheVariants.{Cut}
 use Rattle.replays.specs.Lines.{rec, node, step, more_nodes, more_steps, HasRoom}
 use Rattle.replays.specs.Lines as lines
 use Rattle.replays.specs.Decoding.{line_of}
-use Rattle.replays.specs.Reading.{NextLine}
-use Rattle.replays.specs.Replaying.{Made, Refused, Answers, Replays, ended, cut, wrong, full, stopped, goes}
+use Rattle.replays.specs.Reading.{left, nodes_read, steps_read, records_read, NextLine}
+use Rattle.replays.specs.declared.reader.RunReader.{RunReader}
+use Rattle.replays.specs.Replaying.{Replays, ended, cut, wrong, full, stopped, goes}
 use Rattle.replays.specs.declared.line.Line.{Line}
 use Rattle.replays.specs.declared.faults.RunFault.{RunFault}
 use Rattle.replays.specs.declared.faults.RunFault.TheVariants.{File, Kind, Limit}
@@ -21,6 +21,10 @@ use Rattle.replays.specs.declared.faults.ReplayFault.{ReplayFault}
 use Rattle.replays.specs.declared.faults.ReplayFault.TheVariants.{Run, Bench}
 use Rattle.playback.specs.Following.{Followed, PlayedOut, Sofar}
 use Rattle.bench.specs.declared.ended.EndedRun.{EndedRun}
+
+-- what the reader answered, told by its value
+pub next_is : (x y : RunReader) (r q : Result (Option Line) RunFault) → r ≡ q → NextLine (left x) (nodes_read x) (steps_read x) (records_read x) r (left y) (nodes_read y) (steps_read y) (records_read y) → NextLine (left x) (nodes_read x) (steps_read x) (records_read x) q (left y) (nodes_read y) (steps_read y) (records_read y)
+next_is x y r q e h = subst (λ (z : Result (Option Line) RunFault). NextLine (left x) (nodes_read x) (steps_read x) (records_read x) z (left y) (nodes_read y) (steps_read y) (records_read y)) e h
 
 -- before the first line
 pub sofar_none : (names : ℕ) (S : Protocol) (bs cs : List ℕ) (n s : ℕ) (u : Situation) → n ≡ 0 → s ≡ 0 → u ≡ opened → cs ≡ bs → Sofar names S bs n s u cs

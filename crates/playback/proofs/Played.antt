@@ -1,13 +1,11 @@
 -- A row of calls, one more at a time.
-use Rattle.std.proofs.Common.{◌≡◌, ℕ, ◌+◌, ◌<◌, List, [], ◌∷◌, ◌++◌, take, length, get_or, refl, sym, ap, subst}
+use Rattle.std.proofs.Common.{◌≡◌, ℕ, ◌+◌, ◌<◌, List, [], ◌∷◌, ◌++◌, take, length, get_or, refl, subst}
 use Rattle.std.proofs.lemmas.List.{take_more}
-use Rattle.terms.specs.declared.number.StrandNo.{StrandNo}
 use Rattle.protocol.specs.Lawful.{Content}
 use Rattle.runs.specs.Protocols.{Protocol}
 use Rattle.runs.specs.Tables.{described}
 use Rattle.playing.specs.Calls.{Situation, Called, Plays}
 use Rattle.playing.specs.declared.calls.Call.{Call}
-use Rattle.playing.specs.declared.calls.Call.TheVariants.{Move}
 
 pub plays_none : (names : ℕ) (S : Protocol) (u v : Situation) → v ≡ u → Plays names S [] u v
 unfolding Plays
