@@ -2,6 +2,7 @@
 ghost use Rattle.std.specs.Prelude.{◌≡◌, map};
 ghost use Rattle.terms.specs.Nodes.{Found};
 ghost use Rattle.runs.specs.Tables.{action_of, described};
+ghost use Rattle.playing.specs.Calls.{Reached};
 ghost use Rattle.playing.specs.Verdicts.{VerdictOf};
 ghost use Rattle.bench.specs.Benches.{sheet_of, situation_of, nodes_of, sheet_ended, situation_ended, nodes_ended};
 
@@ -19,10 +20,12 @@ pub struct EndedRun {
 }
 
 impl<N: Notebook + Drop> Bench<N> {
-    // Ends the run. The bench is gone then, and so is its notebook.
+    // Ends the run. The bench is gone then, and so is its notebook. Whatever calls were made, in any order and number, the
+    // run is one of the sheet.
     pub fn end(self) -> EndedRun
         ensures situation { situation_ended result ≡ situation_of self }
         ensures sheet { sheet_ended result ≡ sheet_of self }
+        ensures reached { ∥ Reached (described (sheet_ended result)) (situation_ended result) ∥₁ }
     {
         EndedRun {
             tables: self.tables,
