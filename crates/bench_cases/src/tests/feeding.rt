@@ -2,9 +2,14 @@
 use crate::tests::script::Step::*;
 use crate::tests::script::*;
 use crate::tests::sheets::SECRET_TOLD;
+use bench::Bench;
+use notebook::Notebook;
+use notebooks::{AskingNotebook, KeepingNotebook};
 use sheet_cases::Entry;
 use sheet_cases::kind::{INPUT, NAME, NONE, OUTPUT, SEAL};
+use std::process::Abort;
 use std::test::Fail;
+use terms::NodeNo;
 
 #[test]
 fn the_smallest_number_is_answered(rt: HostRuntime) -> Result<(), Fail> {
@@ -96,4 +101,31 @@ fn the_environment_speaks_first(rt: HostRuntime) -> Result<(), Fail> {
         Came(1, env(7)),
     ];
     Tester::new(&rt).on_each(&KEY_LATER, &steps)
+}
+
+// d and k are noted, and then a bench is opened over that notebook.
+fn cleared<N: Notebook + Drop>(t: &Tester<'_, impl Abort>, kind: &str) -> Result<(), Fail> {
+    let mut book = N::new(t.heap)?;
+    for i in 0..2u16 {
+        assert_eq!(t.rt; book.put(name(i)), Ok(NodeNo(i)));
+        assert_eq!(t.rt; book.note(NodeNo(i)), Ok(()));
+    }
+    let sheet = sheet_of(t.heap, &SECRET_TOLD)?;
+    let mut bench = Bench::open(t.heap, &sheet, book)?;
+    let steps = [
+        Acted(0),
+        FeedRefused(1, 0, 35),
+        Writes(name(0), 0),
+        FeedRefused(1, 0, 36),
+        Moves(0),
+        Feeds(1, 0),
+    ];
+    t.follow(kind, &mut bench, &steps)
+}
+
+#[test]
+fn the_notebook_is_cleared(rt: HostRuntime) -> Result<(), Fail> {
+    let t = Tester::new(&rt);
+    cleared::<AskingNotebook>(&t, "asking")?;
+    cleared::<KeepingNotebook>(&t, "keeping")
 }

@@ -1,7 +1,7 @@
 // What moves: the refusals 32, 33, 34 and 37.
 use crate::tests::script::Step::*;
 use crate::tests::script::*;
-use crate::tests::sheets::SECRET_TOLD;
+use crate::tests::sheets::{SEALED_UNDER_FED, SECRET_TOLD};
 use sheet_cases::Entry;
 use sheet_cases::kind::{INPUT, NAME, NONE, OPEN, OUTPUT, PAIR, SAME, SEAL, SPLIT, VARIABLE};
 use std::test::Fail;
@@ -23,22 +23,6 @@ fn the_smallest_number_is_answered(rt: HostRuntime) -> Result<(), Fail> {
     ];
     Tester::new(&rt).on_each(&SECRET_TOLD, &steps)
 }
-
-// name n: strand 0 has no step; strand 1 takes x and sends {n}x
-const SEALED_UNDER_FED: [Entry; 12] = [
-    Entry::Label(b"a"),
-    Entry::Label(b"b"),
-    Entry::Name(b"n"),
-    Entry::Variable(b"x"),
-    Entry::Node(NAME, 0, 0),
-    Entry::Node(VARIABLE, 0, 0),
-    Entry::Node(SEAL, 0, 1),
-    Entry::Strand,
-    Entry::Strand,
-    Entry::Step(INPUT, 0, 0),
-    Entry::Step(OUTPUT, 1, 2),
-    Entry::Property([NONE, 0, 0, OUTPUT, 1, 0]),
-];
 
 #[test]
 fn a_strand_without_steps_is_finished(rt: HostRuntime) -> Result<(), Fail> {
