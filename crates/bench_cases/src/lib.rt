@@ -1,4 +1,5 @@
-// The cases of benches: rows of calls with the answers that they are to get, each on a bench over every notebook.
+// The cases of benches: calls with the answers that they are to get, rows of calls that are played and run files that are replayed,
+// each over both notebooks.
 #![tactic(auto)]
 
 #[cfg(test)]

@@ -192,7 +192,7 @@ fn the_largest_file(rt: HostRuntime) -> Result<(), Fail> {
     expect(&t, &sheet, &file, Ok(Verdict::Kept))?;
     let mut longer = file.clone()?;
     add(&mut longer, Record::Node(VARIABLE, 0, 0))?;
-    // the bench has no place left, and would not take the node either
+    // the limit of the file is found before the bench is asked, which has no place left and takes no variable
     expect(&t, &sheet, &longer, Err(Fault(22, 512, Layer::Run)))?;
     for _ in 0..16u16 {
         for strand in 0..8u16 {

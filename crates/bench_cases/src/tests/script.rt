@@ -56,12 +56,16 @@ pub(crate) fn seal(body: u16, key: u16) -> Node {
     }
 }
 
-pub(crate) fn sheet_of(heap: Global, entries: &[Entry]) -> Result<Sheet, Fail> {
-    let mut file = SheetFile::new(heap);
-    file.entries(entries)?;
+pub(crate) fn read_sheet(heap: Global, file: &SheetFile) -> Result<Sheet, Fail> {
     let mut sheet = Sheet::new(heap)?;
     sheet.read(heap, file.as_bytes())?;
     Ok(sheet)
+}
+
+pub(crate) fn sheet_of(heap: Global, entries: &[Entry]) -> Result<Sheet, Fail> {
+    let mut file = SheetFile::new(heap);
+    file.entries(entries)?;
+    read_sheet(heap, &file)
 }
 
 fn ends_with<N: Notebook + Drop>(

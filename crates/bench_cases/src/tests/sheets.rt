@@ -1,4 +1,5 @@
 // The sheets that more than one subject plays, and the largest ones.
+use crate::tests::script::read_sheet;
 use sheet::Sheet;
 use sheet_cases::kind::{INPUT, NAME, NONE, OUTPUT, PAIR, SEAL, VARIABLE};
 use sheet_cases::{Entry, SheetFile};
@@ -23,7 +24,7 @@ pub(crate) const SECRET_TOLD: [Entry; 14] = [
     Entry::Property([NONE, 0, 0, INPUT, 1, 0]),
 ];
 
-// names n; n goes out on b, and is to go out on a before
+// name n goes out on b; what goes out on b is to go out on a before
 pub(crate) const NOT_PASSED_ON: [Entry; 9] = [
     Entry::Label(b"a"),
     Entry::Label(b"b"),
@@ -52,12 +53,6 @@ pub(crate) const SEALED_UNDER_FED: [Entry; 12] = [
     Entry::Property([NONE, 0, 0, OUTPUT, 1, 0]),
 ];
 
-fn read(heap: Global, file: &SheetFile) -> Result<Sheet, Fail> {
-    let mut sheet = Sheet::new(heap)?;
-    sheet.read(heap, file.as_bytes())?;
-    Ok(sheet)
-}
-
 // 64 names and 192 pairs, each of the one before with itself; every strand sends the last of them 16 times.
 pub(crate) fn all_outputs(heap: Global) -> Result<Sheet, Fail> {
     let mut file = SheetFile::new(heap);
@@ -74,7 +69,7 @@ pub(crate) fn all_outputs(heap: Global) -> Result<Sheet, Fail> {
         file.repeat(Entry::Step(OUTPUT, 0, 255), 16)?;
     }
     file.entry(Entry::Property([NONE, 0, 0, OUTPUT, 0, 255]))?;
-    read(heap, &file)
+    read_sheet(heap, &file)
 }
 
 // Four strands of 16 inputs, and so all 64 variables.
@@ -91,5 +86,5 @@ pub(crate) fn all_inputs(heap: Global) -> Result<Sheet, Fail> {
         }
     }
     file.entry(Entry::Property([NONE, 0, 0, OUTPUT, 0, 0]))?;
-    read(heap, &file)
+    read_sheet(heap, &file)
 }
