@@ -1,5 +1,5 @@
 -- The calls of a bench: what is fed, and what is moved.
-use Rattle.std.proofs.Common.{◌≡◌, ℕ, ◌<◌, List, [], ◌∷◌, ◌++◌, map, length, Some, None, Ok, Err, Result, refl, sym, ap, subst, ◌∙◌, arith, Bool}
+use Rattle.std.proofs.Common.{Decides, ◌≡◌, ℕ, ◌<◌, List, [], ◌∷◌, ◌++◌, map, length, Some, None, Ok, Err, Result, refl, sym, ap, subst, ◌∙◌, arith, Bool}
 use Rattle.std.specs.Coded.{×_prop}
 use Rattle.std.proofs.Math.Logic.{∥∥₁_elim}
 use Rattle.std.proofs.lemmas.List.{length-map, map_push}
@@ -63,31 +63,31 @@ message_prop (pair a b) = ×_prop (message_prop a) (message_prop b)
 message_prop (seal b k) = ×_prop (message_prop b) (atom_prop k)
 
 -- a message that is written and can be put together is fed
-pub fed_performs : (S : Protocol) (ns : List Node) (acts : List Action) (ws : List NodeNo) (u : Situation) (k q : ℕ) (l : Label) (x : Variable) (p : NodeNo) → AllLawful ns → ∥ Reached S u ∥₁ → u.written ≡ terms_at ns ws → u.state.run ≡ map (action_of ns) acts → InputAt S u k (Ok (l, x)) → PageOf ns ws q (Some p) → Derives (noted_terms ns (noted_in acts)) (term ns p.0) → Performs S ns u.state k (Receive (record { direction = Input; label = l; node = p }) x)
+pub fed_performs : (S : Protocol) (ns : List Node) (acts : List Action) (ws : List NodeNo) (u : Situation) (k q : ℕ) (l : Label) (x : Variable) (p : NodeNo) → AllLawful ns → ∥ Reached S u ∥₁ → u.written ≡ terms_at ns ws → u.state.run ≡ map (action_of ns) acts → InputAt S u k (Ok (l, x)) → PageOf ns ws q (Some p) → Derives (messages (map (action_of ns) acts)) (term ns p.0) → Performs S ns u.state k (Receive (record { direction = Input; label = l; node = p }) x)
 fed_performs S ns acts ws u k q l x p law h w r i g d =
     let length_is : length ws ≡ length u.written = sym (ap length w ∙ length-map ws (λ (z : NodeNo). term ns z.0)) in
     let said : Message (at u.written q) = ∥∥₁_elim h (message_prop (at u.written q)) (λ z. (z.1 q (omega (arith, g.0, length_is))).1) in
     let is : at u.written q ≡ term ns p.0 = ap (λ (ts : List Term). at ts q) w ∙ g.2 in
-    (input l.0 x.0, i.0, fed (term ns p.0) (terms_closed ns law p.0 g.1) (subst Message is said) (subst (λ (K : List Term). Derives K (term ns p.0)) (noted_messages ns acts ∙ sym (ap messages r)) d))
+    (input l.0 x.0, i.0, fed (term ns p.0) (terms_closed ns law p.0 g.1) (subst Message is said) (subst (λ (K : List Term). Derives K (term ns p.0)) (sym (ap messages r)) d))
 
-pub fed_well : (S : Protocol) (ns : List Node) (acts : List Action) (ws : List NodeNo) (u v : Situation) (k q : ℕ) (l : Label) (x : Variable) (p : NodeNo) → u.written ≡ terms_at ns ws → u.state.run ≡ map (action_of ns) acts → InputAt S u k (Ok (l, x)) → PageOf ns ws q (Some p) → Derives (noted_terms ns (noted_in acts)) (term ns p.0) → v ≡ performed ns u k (Receive (record { direction = Input; label = l; node = p }) x) → Fed S u k q (Ok tt) v
+pub fed_well : (S : Protocol) (ns : List Node) (acts : List Action) (ws : List NodeNo) (u v : Situation) (k q : ℕ) (l : Label) (x : Variable) (p : NodeNo) → u.written ≡ terms_at ns ws → u.state.run ≡ map (action_of ns) acts → InputAt S u k (Ok (l, x)) → PageOf ns ws q (Some p) → Derives (messages (map (action_of ns) acts)) (term ns p.0) → v ≡ performed ns u k (Receive (record { direction = Input; label = l; node = p }) x) → Fed S u k q (Ok tt) v
 fed_well S ns acts ws u v k q l x p w r i g d e =
     let length_is : length ws ≡ length u.written = sym (ap length w ∙ length-map ws (λ (z : NodeNo). term ns z.0)) in
     let is : at u.written q ≡ term ns p.0 = ap (λ (ts : List Term). at ts q) w ∙ g.2 in
-    (l.0, x.0, i.0, omega (arith, g.0, length_is), rw is (subst (λ (K : List Term). Derives K (term ns p.0)) (noted_messages ns acts ∙ sym (ap messages r)) d), e ∙ ap (feeding u k l.0 x.0) (sym is))
+    (l.0, x.0, i.0, omega (arith, g.0, length_is), rw is (subst (λ (K : List Term). Derives K (term ns p.0)) (sym (ap messages r)) d), e ∙ ap (feeding u k l.0 x.0) (sym is))
 
 -- what is not written, and what cannot be put together
 pub not_written : (S : Protocol) (ns : List Node) (ws : List NodeNo) (u : Situation) (k q : ℕ) (l : Label) (x : Variable) → u.written ≡ terms_at ns ws → InputAt S u k (Ok (l, x)) → PageOf ns ws q None → Fed S u k q (Err NotWritten) u
 not_written S ns ws u k q l x w i g = (input l.0 x.0, i.0, tt, omega (arith, g, ap length w, length-map ws (λ (z : NodeNo). term ns z.0)), refl)
 
-pub not_derivable : (S : Protocol) (ns : List Node) (acts : List Action) (ws : List NodeNo) (u : Situation) (k q : ℕ) (l : Label) (x : Variable) (p : NodeNo) → u.written ≡ terms_at ns ws → u.state.run ≡ map (action_of ns) acts → InputAt S u k (Ok (l, x)) → PageOf ns ws q (Some p) → ¬ Derives (noted_terms ns (noted_in acts)) (term ns p.0) → Fed S u k q (Err NotDerivable) u
+pub not_derivable : (S : Protocol) (ns : List Node) (acts : List Action) (ws : List NodeNo) (u : Situation) (k q : ℕ) (l : Label) (x : Variable) (p : NodeNo) → u.written ≡ terms_at ns ws → u.state.run ≡ map (action_of ns) acts → InputAt S u k (Ok (l, x)) → PageOf ns ws q (Some p) → ¬ Derives (messages (map (action_of ns) acts)) (term ns p.0) → Fed S u k q (Err NotDerivable) u
 not_derivable S ns acts ws u k q l x p w r i g n =
     let is : at u.written q ≡ term ns p.0 = ap (λ (ts : List Term). at ts q) w ∙ g.2 in (
       input l.0 x.0,
       i.0,
       tt,
       omega (arith, g.0, ap length w, length-map ws (λ (z : NodeNo). term ns z.0)),
-      (λ d. n (subst (λ (K : List Term). Derives K (term ns p.0)) (ap messages r ∙ sym (noted_messages ns acts)) (subst (Derives (messages u.state.run)) is d))),
+      (λ d. n (subst (λ (K : List Term). Derives K (term ns p.0)) (ap messages r) (subst (Derives (messages u.state.run)) is d))),
       refl,
     )
 
@@ -113,7 +113,7 @@ not_fed S u k q NotDerivable h = absurd h
 not_fed S u k q Stuck h = absurd h
 
 -- what the notebook answers, of the pages
-pub derivable_told : (ns ms : List Node) (l m : List ℕ) (p : NodeNo) (r : Bool) → ns ≡ ms → l ≡ m → Derivable ns l p r → Derivable ms m p r
+derivable_told : (ns ms : List Node) (l m : List ℕ) (p : NodeNo) (r : Bool) → ns ≡ ms → l ≡ m → Derivable ns l p r → Derivable ms m p r
 derivable_told ns ms l m p r e f d = rw (← e, ← f) d
 
 pub noted_acted : (acts bs : List Action) (e : List Action) (a : Action) → bs ≡ acts ++ e → e ≡ a ∷ [] → noted_in bs ≡ noted_in acts ++ (a.node.0 ∷ [])
@@ -145,3 +145,9 @@ step_noted t k e a ns ms l m r h d f x n q =
     note_taken ns ms l m a.node r (extends_term (nodes_of t) ns x a.node.0 (acted_place (nodes_of t) e a h f)).0
     (omega (arith, small, length-map t.run.items (action_of (nodes_of t)), ap length n, length-map t.run.items (λ (b : Action). b.node.0)))
     q
+
+-- what the notebook answers, of the run
+pub derives_told : (ns ms : List Node) (l : List ℕ) (acts : List Action) (p : NodeNo) (r : Bool) → ns ≡ ms → l ≡ noted_in acts → p.0 < length ms → Derivable ns l p r → Decides r (Derives (messages (map (action_of ms) acts)) (term ms p.0))
+derives_told ns ms l acts p r e f h d =
+    let t = derivable_told ns ms l (noted_in acts) p r e f d in
+    rw (← noted_messages ms acts) (λ y. (t.0 y).1, λ y. t.1 (h, y))

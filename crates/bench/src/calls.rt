@@ -1,5 +1,8 @@
 // The calls of a bench.
-ghost use Rattle.std.specs.Prelude.{◌≡◌, length, IfOk, OnErr};
+ghost use Rattle.std.specs.Prelude.{◌≡◌, ◌<◌, length, IfOk, OnErr, Decides};
+ghost use Rattle.terms.specs.Nodes.{term};
+ghost use Rattle.derivation.specs.Derive.{Derives};
+ghost use Rattle.runs.specs.Runs.{messages};
 ghost use Rattle.sheet.specs.Sheets.{content_of};
 ghost use Rattle.playing.specs.Calls.{opened, Wrote, Fed, Moved};
 ghost use Rattle.bench.specs.Tables.{sheet_in, protocol_in, nodes_of, situation};
@@ -57,6 +60,15 @@ impl<N: Notebook + Drop> Bench<N> {
         Ok(place)
     }
 
+    // Whether the message at a place can be put together from the run's terms: the notebook is asked, and nothing else.
+    #[tactic(auto, using(crate::proofs::Calling::derives_told))]
+    fn is_derived(&self, node: NodeNo) -> bool
+        requires { node.0 < length (nodes_of self.now.tables) }
+        ensures { let t = self.now.tables in Decides result (Derives (messages (situation t).state.run) (term (nodes_of t) node.0)) }
+    {
+        self.book.derivable(node)
+    }
+
     // Gives a strand at an input the message at a place, where the notebook says that it can be put together.
     pub fn feed(&mut self, strand: StrandNo, place: NodeNo) -> Result<(), StepFault>
         ensures fed { Fed (protocol_of self.old) (situation_of self.old) strand.0 place.0 result (situation_of self.new) }
@@ -65,7 +77,7 @@ impl<N: Notebook + Drop> Bench<N> {
     {
         let (label, variable) = self.tables.input(strand)?;
         let node = self.tables.page_of(place).ok_or(StepFault::NotWritten)?;
-        if !self.book.derivable(node) {
+        if !self.is_derived(node) {
             return Err(StepFault::NotDerivable);
         }
         let action = Action {

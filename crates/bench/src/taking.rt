@@ -1,6 +1,6 @@
 // Whether the next step of a strand can be taken, and what it does.
-ghost use Rattle.std.specs.Prelude.{◌≡◌, ◌<◌, length, Some};
-ghost use Rattle.terms.specs.Terms.{var, pair, seal};
+ghost use Rattle.std.specs.Prelude.{◌≡◌, ◌<◌, length, MatchOption};
+ghost use Rattle.terms.specs.Terms.{Message};
 ghost use Rattle.terms.specs.Nodes.{node as node_at, term};
 ghost use Rattle.protocol.specs.Strands.{output, opens, splits, same, step_of};
 ghost use Rattle.protocol.specs.Lawful.{OpenPattern, SplitPattern, StepLaw};
@@ -26,16 +26,20 @@ impl Tables {
         self.placed[node.0 as usize]
     }
 
+    // The place itself, where its term is a message.
+    fn message(&self, node: NodeNo) -> Option<NodeNo>
+        requires { node.0 < length (nodes_of self.now) }
+        ensures { let m = Message (term (nodes_of self.now) node.0) in MatchOption result (¬ m) (λ p. (p ≡ node) × m) }
+    {
+        self.pages.is_message(node).then_some(node)
+    }
+
     // An output: its value is a message.
-    #[tactic(auto, using(crate::proofs::Taken::send_no_value, crate::proofs::Taken::send_no_message, crate::proofs::Taken::send_yes))]
     fn sending(&self, label: Label, node: NodeNo) -> Option<Effect>
         requires { node.0 < length (sheet_in self.now).nodes }
         ensures { let st = (situation self.now).state in DoneBy (nodes_of self.now) st.value (messages st.run) (output label.0 (term (sheet_in self.now).nodes node.0)) result }
     {
-        let node = self.value_of(node)?;
-        if !self.pages.is_message(node) {
-            return None;
-        }
+        let node = self.message(self.value_of(node)?)?;
         Some(Effect::Send(Action {
             direction: Direction::Output,
             label,
