@@ -1,0 +1,6 @@
+use Rattle.std.proofs.Common.{refl, arith}
+use Rattle.reach.proofs.Sets.{added}
+use Rattle.reach.proofs.numbers.Numbers.add.Goals as goal
+
+pub returns : goal.returns
+returns c = added c.args.self.now c.args.n _ (omega arith) refl
