@@ -1,12 +1,17 @@
 // Sets of the numbers of nodes and of names.
 ghost use Rattle.std.specs.Prelude.{◌≡◌, ℕ, false};
 
+use terms::{VarSet, Variable};
+
 pub(crate) const NUMBERS: usize = 65536;
 
-// one mark for each number that a node or a name can have, so that a set takes no memory of the caller's
+const ROWS: usize = 1024;
+
+// One digit for each number that a node or a name can have, in rows of 64: a set takes no memory of the caller's, and is
+// soon made.
 #[derive(Drop)]
 pub struct Numbers {
-    marks: [bool; NUMBERS],
+    rows: [VarSet; ROWS],
 }
 
 impl Numbers {
@@ -15,20 +20,23 @@ impl Numbers {
     pub(crate) fn none() -> Numbers
         ensures { (i : ℕ) → has result i ≡ false }
     {
+        let empty = VarSet::empty();
         Numbers {
-            marks: [false; NUMBERS],
+            rows: [empty; ROWS],
         }
     }
 
     pub(crate) fn contains(&self, n: u16) -> bool
         ensures { result ≡ has self.now n }
     {
-        self.marks[n as usize]
+        self.rows[(n / 64) as usize].contains(Variable(n % 64))
     }
 
     pub(crate) fn add(&mut self, n: u16)
         ensures { Added self.old n self.new }
     {
-        self.marks[n as usize] = true;
+        let row = (n / 64) as usize;
+        let more = self.rows[row].with(Variable(n % 64));
+        self.rows[row] = more;
     }
 }
