@@ -13,8 +13,9 @@ use Rattle.terms.proofs.Unfolding.{unfolds}
 use Rattle.unification.specs.Bindings.{node_at, Within, Unbound, Falls}
 use Rattle.unification.specs.declared.binding.Binding.{Binding}
 use Rattle.unification.proofs.Variables.{top, below_top}
+use Rattle.matching.specs.Matchings.{MostGeneral}
 use Rattle.alike.specs.Heads.{head, both, key}
-use Rattle.alike.specs.Finding.{Valued, Leads, Fresh, Told}
+use Rattle.alike.specs.Finding.{Valued, Leads, Fresh, Told, Ended}
 use Rattle.alike.specs.declared.heads.Alike.{Alike}
 use Rattle.alike.proofs.Heading.{Grouped, AllHeaded}
 
@@ -81,17 +82,23 @@ headed : (q : Option NodeNo) → (q ≡ None → ⊥) → (c : NodeNo) × (q ≡
 headed None f = absurd (f refl)
 headed (Some c) f = (c, refl)
 
+found : (ns : List Node) → Ordered ns → (B : List Binding) (s : Alike) → Fresh ns B s None → MostGeneral ns B → (i : ℕ) → i < 2 ^ 16 → i < length ns → (c : NodeNo) × (head s i ≡ Some c)
+found ns o B s rests general i w l = headed (head s i) (λ f. ∥∥₁_elim general.ranked ⊥_prop (λ g. none_left ns o B general.within g.0 g.1 s rests i l w f))
+
 pub told : (ns : List Node) → Ordered ns → (B : List Binding) (s : Alike) → AllHeaded ns B s → Fresh ns B s None → Told ns B s
 told ns o B s all rests general θ values a b u v = (
   λ (c, p, q). (h.inside a c p, h.inside b c q, h.same a c p ∙ sym (h.same b c q)),
   λ k l e.
-      let (c, p) = found a u k in
-      let (d, q) = found b v l in
+      let (c, p) = found ns o B s rests general a u k in
+      let (d, q) = found ns o B s rests general b v l in
       (c, p, q ∙ ap Some (sym (h.apart c d (h.own a c p).self (h.own b d q).self (sym (h.same a c p) ∙ e ∙ h.same b d q)))),
 )
   where
     h : Grouped ns B θ s
     h = all θ values
 
-    found : (i : ℕ) → i < 2 ^ 16 → i < length ns → (c : NodeNo) × (head s i ≡ Some c)
-    found i w l = headed (head s i) (λ f. ∥∥₁_elim general.ranked ⊥_prop (λ g. none_left ns o B general.within g.0 g.1 s rests i l w f))
+pub ended : (ns : List Node) → Ordered ns → (B : List Binding) (s : Alike) → AllHeaded ns B s → Fresh ns B s None → Ended ns B s
+ended ns o B s all rests general θ values a u l =
+    let h : Grouped ns B θ s = all θ values in
+    let (c, p) = found ns o B s rests general a u l in
+    (c, p, h.inside c.0 c (h.own a c p).self, h.same a c p, (h.own a c p).free)

@@ -56,3 +56,7 @@ Fresh ns B s (Some p) = Answered ns B s p.0.0 (Some p.1)
 abbrev pub Told : List Node → List Binding → Alike → Type 0
 Told ns B s =
     MostGeneral ns B → (θ : ℕ → Term) → Values ns B θ → (a b : ℕ) → a < 2 ^ 16 → b < 2 ^ 16 → (Same s a b → (a < length ns) × (b < length ns) × (val ns θ a ≡ val ns θ b)) × (a < length ns → b < length ns → val ns θ a ≡ val ns θ b → Same s a b)
+
+-- and each node has a head: a node of its value that is no bound variable
+abbrev pub Ended : List Node → List Binding → Alike → Type 0
+Ended ns B s = MostGeneral ns B → (θ : ℕ → Term) → Values ns B θ → (a : ℕ) → a < 2 ^ 16 → a < length ns → (c : NodeNo) × (head s a ≡ Some c) × (c.0 < length ns) × (val ns θ a ≡ val ns θ c.0) × Leads B (node ns c.0) None

@@ -1,7 +1,7 @@
 // Heads are found, those of parts and of the nodes of bindings first, until every node has one.
 ghost use Rattle.std.specs.Prelude.{◌≡◌, Decides};
 ghost use Rattle.terms.specs.Tables.{nodes_in};
-ghost use Rattle.alike.specs.Finding.{Valued, Leads, Fits, Sought, Answered, Fresh, Told};
+ghost use Rattle.alike.specs.Finding.{Valued, Leads, Fits, Sought, Answered, Fresh, Told, Ended};
 
 use crate::heads::{Alike, NODES};
 use terms::{Node, NodeNo, NodeTable, Variable};
@@ -88,7 +88,8 @@ impl Alike {
 // Which nodes of a table have one value under the bindings of a matching of that table. The table and the bindings are asked
 // for, since a matching lends no nodes.
 pub fn alike(nodes: &NodeTable, bindings: &[Binding]) -> Alike
-    ensures { Told (nodes_in nodes.now) bindings.now result }
+    ensures values { Told (nodes_in nodes.now) bindings.now result }
+    ensures heads { Ended (nodes_in nodes.now) bindings.now result }
 {
     let mut alike = Alike::none();
     while let Some((n, c)) = alike.next(nodes, bindings) {

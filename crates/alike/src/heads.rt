@@ -24,7 +24,8 @@ impl Alike {
         }
     }
 
-    pub(crate) fn head(&self, n: NodeNo) -> Option<NodeNo>
+    // One node for all of the same value; it is no bound variable.
+    pub fn head(&self, n: NodeNo) -> Option<NodeNo>
         ensures { result ≡ head self.now n.0 }
     {
         self.heads[n.0 as usize]

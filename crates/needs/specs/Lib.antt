@@ -1,0 +1,4 @@
+pub mod Asked
+pub mod Needed
+pub mod Asking
+pub mod Told
