@@ -124,7 +124,7 @@ pub struct Tester<'a, R> {
 }
 
 impl<'a, R: AllocGlobal> Tester<'a, R> {
-    pub fn new(rt: &'a R) -> Tester<'a, R> {
+    pub(crate) fn new(rt: &'a R) -> Tester<'a, R> {
         Tester {
             rt,
             heap: rt.alloc(),
@@ -135,7 +135,7 @@ impl<'a, R: AllocGlobal> Tester<'a, R> {
 impl<R: Abort> Tester<'_, R> {
     // Follows a script on a bench over a notebook of a kind, and says at which step an answer is another. No step takes an
     // action of the run back, and what is refused adds none.
-    pub fn follow<N: Notebook + Drop>(
+    pub(crate) fn follow<N: Notebook + Drop>(
         &self,
         kind: &str,
         bench: &mut Bench<N>,
@@ -163,7 +163,7 @@ impl<R: Abort> Tester<'_, R> {
     }
 
     // Follows a script on a new bench of a sheet over each notebook.
-    pub fn on_each(&self, entries: &[Entry], steps: &[Step]) -> Result<(), Fail> {
+    pub(crate) fn on_each(&self, entries: &[Entry], steps: &[Step]) -> Result<(), Fail> {
         let sheet = sheet_of(self.heap, entries)?;
         self.follow_new::<AskingNotebook>("asking", &sheet, steps)?;
         self.follow_new::<KeepingNotebook>("keeping", &sheet, steps)
