@@ -9,4 +9,4 @@ mod limits;
 pub use calls::{Call, Reply, agree, replies};
 pub use faults::{NoteFault, PutFault};
 pub use interface::Notebook;
-pub use limits::{ENV_NAMES, LOCAL_NAMES, MOST_NODES, MOST_NOTES};
+pub use limits::{ENV_NAMES, LOCAL_NAMES, MOST_NODES, MOST_NOTES, limits_stand};
