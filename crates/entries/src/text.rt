@@ -21,14 +21,17 @@ impl Text {
     pub fn new(bytes: &[u8]) -> Option<Text>
         ensures { MatchOption result (¬ IsText bytes.now) (λ t. IsText bytes.now × (bytes_of t ≡ bytes.now)) }
     {
-        if bytes.is_empty() || !printable(bytes) {
+        // the length first: however long the bytes are, no more than a text of them is looked at
+        if bytes.is_empty() || bytes.len() > 16 || !printable(bytes) {
             return None;
         }
-        let text = str::from_utf8(bytes).ok()?;
+        // printable bytes are UTF-8, which is proved, so they are not looked at a second time
+        let text = unsafe { str::from_utf8_unchecked(bytes) };
         let text = ArrayString::from(text).ok()?;
         Some(Text { text })
     }
 
+    #[tactic(auto, using(crate::proofs::Texts::printable_bytes))]
     pub fn as_bytes(&self) -> &[u8]
         ensures value { result.now ≡ bytes_of self.now }
         ensures printable { AllByRecursion (λ b. (33 ≤ b) × (b ≤ 126)) result.now }

@@ -6,13 +6,13 @@ use Rattle.entries.proofs.text.Text.new.Goals as goal
 pub returns-then-is_empty : goal.returns-then-is_empty
 returns-then-is_empty c t = grind (arith, common_steps, bytes_printable _ t.2, t.0)
 
-pub returns-in_err-text : goal.returns-in_err-text
-returns-in_err-text c = grind (arith, common_steps, utf8)
+pub from_utf8_unchecked-text-requires : goal.from_utf8_unchecked-text-requires
+from_utf8_unchecked-text-requires c = utf8 _ (sym c.printable.ensures ∙ c.if-not-printable.false)
 
 pub returns : goal.returns
 returns c =
     let p = printable_bytes c.args.bytes.now (sym c.printable.ensures ∙ c.if-not-printable.false) in
-    let e = kept (λ t. t.now ≡ c.args.bytes.now) c.from_utf8.result c.in_ok-text.text c.in_ok-text.ensures.value (grind (arith, common_steps, c.from_utf8.ensures.cases)) in
-    let f = kept (λ t. t.bytes ≡ c.in_ok-text.text.now) c.from.result c.in_ok-text-2.text c.in_ok-text-2.ensures.value c.from.ensures.ok in
-    let l = c.from.ensures.variant.0 (sym c.in_ok-text-2.ensures.variant) in
+    let e = c.from_utf8_unchecked-text.ensures in
+    let f = kept (λ t. t.bytes ≡ c.from_utf8_unchecked-text.result.now) c.from.result c.in_ok-text.text c.in_ok-text.ensures.value c.from.ensures.ok in
+    let l = c.from.ensures.variant.0 (sym c.in_ok-text.ensures.variant) in
     ((grind (arith, common_steps), omega (arith, rw e at l), p), f ∙ e)
