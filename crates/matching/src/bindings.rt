@@ -16,8 +16,9 @@ use unification::Binding;
 #[derive(Drop)]
 pub struct Bindings {
     list: Vec<Binding>,
-    // for each variable the place of its binding, if it has one; a map would take memory at each binding
-    index: Vec<Option<usize>>,
+    // for each variable the place of its binding, if it has one: there are no more than 64, so a byte holds it. A map would take
+    // memory at each binding
+    index: Vec<Option<u8>>,
     ghost indexed: { Indexed list.items index.items } by { Prim.hlevel props },
     ghost counted: { Counted list.items index.items },
     ghost wide: { vec_len index ≡ 64 },
@@ -47,7 +48,7 @@ impl Bindings {
 
     // The place of the binding of a node that is a bound variable. The table says that its variables are below 64, and so do
     // the three calls that take one: a type for such variables would be asked of whoever makes a node.
-    fn place(&self, node: Node) -> Option<usize>
+    fn place(&self, node: Node) -> Option<u8>
         requires { (x : ℕ) → node ≡ Var (record { 0 = x }) → x < 64 }
         ensures { Placed self.now.list.items node result }
     {
@@ -67,7 +68,7 @@ impl Bindings {
         let table = nodes.as_slice();
         let mut here = n;
         while let Some(k) = self.place(table[here.0 as usize]) {
-            here = self.list[k].node;
+            here = self.list[k as usize].node;
         }
         here
     }
@@ -110,7 +111,7 @@ impl Bindings {
         requires narrow { b.variable.0 < 64 }
         ensures { self.new.list.items ≡ with_binding self.old.list.items b.variable.0 b.node.0 }
     {
-        self.index[b.variable.0 as usize] = Some(self.list.len());
+        self.index[b.variable.0 as usize] = Some(self.list.len() as u8);
         self.list.push_reserved(b);
     }
 

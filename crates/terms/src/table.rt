@@ -33,8 +33,9 @@ impl Clone for NodeTable {
     ghost is_clone = { λ t u. nodes_in u ≡ nodes_in t };
 
     fn clone(&self) -> Result<NodeTable, AllocError> {
-        let nodes = self.nodes.clone()?;
-        let variables = self.variables.clone()?;
+        // each list in one piece, and not item by item as a list is cloned
+        let nodes = Vec::from_slice(*self.nodes.allocator(), self.as_slice())?;
+        let variables = Vec::from_slice(*self.variables.allocator(), self.variables.as_slice())?;
         Ok(NodeTable { nodes, variables })
     }
 }
