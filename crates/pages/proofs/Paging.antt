@@ -64,7 +64,7 @@ page_says p i n l e = unfolds (nodes_on p) (page_ordered p) i l ∙ ap (says (te
 pub node_says : (p : PageTable) (i : ℕ) (x : Page) → i < length (nodes_on p) → x ≡ slice_index_or p.list.items i x → term (nodes_on p) i ≡ says (term (nodes_on p)) x.node
 node_says p i x l e = page_says p i x.node l (sym (page_node p i x l e))
 
-page_first : (p : PageTable) (i : ℕ) (x : Page) → i < length (nodes_on p) → x ≡ slice_index_or p.list.items i x → x.first.0 ≡ first (nodes_on p) (term (nodes_on p) i)
+pub page_first : (p : PageTable) (i : ℕ) (x : Page) → i < length (nodes_on p) → x ≡ slice_index_or p.list.items i x → x.first.0 ≡ first (nodes_on p) (term (nodes_on p) i)
 page_first p i x l e =
     let k : i < length p.list.items = omega (arith, length_nodes p.list.items) in
     first_of (nodes_on p) (firsts_in p.list.items) i x.first p.places l (ap (λ (q : Page). q.first) e ∙ sym (get_or-map (λ q. q.first) p.list.items i x x.first k))

@@ -14,7 +14,7 @@ use Rattle.notebook.specs.Calls.{Lawful}
 use Rattle.pages.specs.Columns.{AllLawful}
 
 -- the parts of a lawful node stand before it
-lawful_below : (i : ℕ) (n : Node) → Lawful i n → Below i n
+pub lawful_below : (i : ℕ) (n : Node) → Lawful i n → Below i n
 lawful_below i (Name n) l = tt
 lawful_below i (Env n) l = tt
 lawful_below i (Var n) l = tt
@@ -61,11 +61,15 @@ pub first_of : (ns : List Node) (fs : List NodeNo) (i : ℕ) (f : NodeNo) → fs
 first_of ns fs i f e l p = ap (λ (n : NodeNo). n.0) (p ∙ ap (λ (l : List NodeNo). get_or l i f) e) ∙ firsts_at ns i f l
 
 -- two places that are held hold one term where their first places are one
-pub same_told : (ns : List Node) (i j : ℕ) (r : Bool) → i < length ns → j < length ns → r ≡ (first ns (term ns i) == first ns (term ns j)) → Decides r ((i < length ns) × (j < length ns) × (term ns i ≡ term ns j))
-same_told ns i j r l m e =
+pub places_told : (ns : List Node) (i j : ℕ) (r : Bool) → i < length ns → j < length ns → r ≡ (first ns (term ns i) == first ns (term ns j)) → Decides r (term ns i ≡ term ns j)
+places_told ns i j r l m e =
     let s = first_places ns i j l m in
     let d = Decides-at _ _ e (Decides-eqb _ _) in
-    (λ t. (l, m, s.2 (d.0 t)), λ t. d.1 (s.3 t.2))
+    (λ t. s.2 (d.0 t), λ t. d.1 (s.3 t))
+
+-- the same, with that they are held
+pub same_told : (ns : List Node) (i j : ℕ) (r : Bool) → i < length ns → j < length ns → r ≡ (first ns (term ns i) == first ns (term ns j)) → Decides r ((i < length ns) × (j < length ns) × (term ns i ≡ term ns j))
+same_told ns i j r l m e = let d = places_told ns i j r l m e in (λ t. (l, m, d.0 t), λ t. d.1 t.2)
 
 -- a place that holds the term of a node, and none before it does, is the term's first
 pub first_found : (ns : List Node) (n : Node) (i : ℕ) → Ordered ns → i < length ns → says (term ns) (node ns i) ≡ says (term ns) n → ((k : ℕ) → k < i → term ns k ≢ says (term ns) n) → i ≡ first ns (says (term ns) n)

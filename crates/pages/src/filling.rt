@@ -40,6 +40,17 @@ impl PageTable {
         }
     }
 
+    // Whether two held places hold one term. `same` looks whether they are held; here that is known, and this is asked of each
+    // page there is whenever a node is put.
+    #[tactic(auto, using(crate::proofs::Paging::page_first, crate::proofs::Rows::places_told))]
+    fn same_place(&self, a: NodeNo, b: NodeNo) -> bool
+        requires a_held { a.0 < length (nodes_on self.now) }
+        requires b_held { b.0 < length (nodes_on self.now) }
+        ensures { Decides result (term (nodes_on self.now) a.0 ≡ term (nodes_on self.now) b.0) }
+    {
+        self.list[a.0 as usize].first == self.list[b.0 as usize].first
+    }
+
     // Whether two nodes over these places are one term. This is not the derived equality: places are compared by their
     // terms.
     fn same_node(&self, a: Node, b: Node) -> bool
@@ -53,7 +64,7 @@ impl PageTable {
             (Node::Var(x), Node::Var(y)) => x == y,
             (Node::Pair { left: c, right: d }, Node::Pair { left: e, right: f })
             | (Node::Seal { body: c, key: d }, Node::Seal { body: e, key: f }) => {
-                self.same(c, e) && self.same(d, f)
+                self.same_place(c, e) && self.same_place(d, f)
             }
             _ => false,
         }
