@@ -105,7 +105,7 @@ unfolding Plays
 plays_none rs ns ns' ys ys' e f g = subst (λ (l : List Reply). Plays [] ns ys l ns' ys') (sym e) (f, g)
 
 -- one call more at the end
-plays_push : (cs : List Call) (c : Call) (rs : List Reply) (r : Reply) (ns us ns' : List Node) (ys vs ys' : List ℕ) → Plays cs ns ys rs us vs → Replies c us vs r ns' ys' → Plays (cs ++ (c ∷ [])) ns ys (rs ++ (r ∷ [])) ns' ys'
+pub plays_push : (cs : List Call) (c : Call) (rs : List Reply) (r : Reply) (ns us ns' : List Node) (ys vs ys' : List ℕ) → Plays cs ns ys rs us vs → Replies c us vs r ns' ys' → Plays (cs ++ (c ∷ [])) ns ys (rs ++ (r ∷ [])) ns' ys'
 unfolding Plays
 plays_push [] c [] r ns us ns' ys vs ys' p q = (ns', ys', subst (λ (w : List ℕ). Replies c ns w r ns' ys') p.1 (subst (λ (w : List Node). Replies c w vs r ns' ys') p.0 q), (refl, refl))
 plays_push [] c (x ∷ rs) r ns us ns' ys vs ys' p q = absurd p
